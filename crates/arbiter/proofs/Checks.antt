@@ -1,0 +1,103 @@
+-- What checks that find no fault say. Assumes nothing.
+use mathlib.Core.Path.{_≡_, refl, sym, _∙_}
+use mathlib.Core.Bool.{Bool, true, false}
+use mathlib.Core.List.{List, [], _∷_}
+use Prim.Native.Nat.{ℕ, zero, suc, _+_, _-_, _≤_, _<_}
+use native.Mathlib.Nat.{not-suc-le-zero, zero-add, add-zero, add-suc, suc-add}
+use native.Mathlib.Omega.{arith}
+use borrow.Author.Tests.{leb-true}
+use lib.Dec.{leb}
+use lib.ListN.{length, getD, take, drop}
+use Rattle.lists.specs.Choices.{inRange}
+use Rattle.lists.specs.Sums.{total, every}
+use Rattle.lists.proofs.Tests.{true-false, in-range-true}
+use Rattle.arbiter.specs.declared.refusals.Refusal.{Refusal}
+use Rattle.arbiter.specs.declared.table.Requestor.{Requestor}
+use Rattle.arbiter.specs.declared.table.Table.{Table}
+use Rattle.arbiter.specs.Limits.{maxDenominator, maxBurst, maxNeed, maxWithin, maxSlot}
+use Rattle.arbiter.specs.Refusals.{Verdict, faultless, fault, refusal, refusalAt, gate, then}
+use Rattle.arbiter.specs.Table.{rate, noRequestor, requestorClear, places, rowVerdict, eachPlace, tableVerdict}
+use Rattle.arbiter.specs.Figures.{finish, needVerdict, admissionVerdict}
+use Rattle.arbiter.specs.Start.{startVerdict}
+
+pub gate-open : (r : Refusal) (test : Bool) (rest : Verdict) → gate r test rest ≡ faultless → (test ≡ true) × (rest ≡ faultless)
+unfolding gate
+gate-open r true rest e = (refl, e)
+gate-open r false rest e = let z : _≡_ {A = ℕ} 0 1 = cc in absurd (omega arith)
+
+pub then-open : (v rest : Verdict) → then v rest ≡ faultless → (v ≡ faultless) × (rest ≡ faultless)
+unfolding then
+then-open faultless rest e = (refl, e)
+then-open (fault r) rest e = let z : _≡_ {A = ℕ} 0 1 = cc in absurd (omega arith)
+
+-- a check that passes place by place passes at each place
+pub each-place-at : (check : ℕ → Requestor → Verdict) (p : ℕ) (rs : List Requestor) → eachPlace check p rs ≡ faultless
+    → (i : ℕ) → i < length rs → check (p + i) (getD rs i noRequestor) ≡ faultless
+unfolding eachPlace
+each-place-at check p [] e i h = absurd (not-suc-le-zero h)
+each-place-at check p (r ∷ rs) e zero h = rw add-zero (then-open (check p r) (eachPlace check (suc p) rs) e .0)
+each-place-at check p (r ∷ rs) e (suc i) h = rw (add-suc, ← suc-add) (each-place-at check (suc p) rs (then-open (check p r) (eachPlace check (suc p) rs) e .1) i (omega arith))
+
+-- a row within its limits
+pub record Row (d : ℕ) (r : Requestor) : Type 0 where
+  pub rate-least : 1 ≤ r .rate
+  pub rate-most : r .rate ≤ d
+  pub burst-least : d ≤ r .burst
+  pub burst-most : r .burst ≤ maxBurst
+  pub need-least : 1 ≤ r .need .0
+  pub need-most : r .need .0 ≤ maxNeed
+  pub within-least : 1 ≤ r .within .0
+  pub within-most : r .within .0 ≤ maxWithin
+
+row-open : (d p : ℕ) (r : Requestor) → rowVerdict d p r ≡ faultless → Row d r
+unfolding rowVerdict
+row-open d p r e =
+    let a = gate-open _ _ _ e in
+    let b = gate-open _ _ _ (a .1) in
+    let c = gate-open _ _ _ (b .1) in
+    let f = gate-open _ _ _ (c .1) in
+    let ra = in-range-true _ _ _ (a .0) in
+    let bu = in-range-true _ _ _ (b .0) in
+    let ne = in-range-true _ _ _ (c .0) in
+    let wi = in-range-true _ _ _ (f .0) in
+    record {
+      rate-least = ra .0; rate-most = ra .1; burst-least = bu .0; burst-most = bu .1;
+      need-least = ne .0; need-most = ne .1; within-least = wi .0; within-most = wi .1 }
+
+-- a table that passes checks 1 to 6
+pub record Fair (limit : ℕ) (t : Table) : Type 0 where
+  pub denominator-least : 1 ≤ t .denominator
+  pub denominator-most : t .denominator ≤ maxDenominator
+  pub count-least : 1 ≤ t .count
+  pub count-most : t .count ≤ limit
+  pub clear : every requestorClear (drop (t .count) (t .requestors)) ≡ true
+  pub row : (p : ℕ) → p < length (places t) → Row (t .denominator) (getD (places t) p noRequestor)
+  pub rate-sum : total rate (places t) ≤ t .denominator
+
+pub fair : (limit : ℕ) (t : Table) → tableVerdict limit t ≡ faultless → Fair limit t
+unfolding tableVerdict
+fair limit t e =
+    let a = gate-open _ _ _ e in
+    let b = gate-open _ _ _ (a .1) in
+    let c = gate-open _ _ _ (b .1) in
+    let f = then-open _ _ (c .1) in
+    let g = gate-open _ _ _ (f .1) in
+    let d = in-range-true _ _ _ (a .0) in
+    let n = in-range-true _ _ _ (b .0) in
+    record {
+      denominator-least = d .0; denominator-most = d .1; count-least = n .0; count-most = n .1; clear = c .0;
+      row = λ p h. row-open _ (0 + p) _ (each-place-at (rowVerdict (t .denominator)) 0 (places t) (f .0) p h);
+      rate-sum = leb-true _ _ (g .0) }
+
+-- a table that passes admission: checks 1 to 6, and each need holds
+pub record Admitted (limit : ℕ) (t : Table) : Type 0 where
+  pub passes : tableVerdict limit t ≡ faultless
+  pub need : (p : ℕ) → p < length (places t) → finish (t .denominator) (places t) p (getD (places t) p noRequestor .need .0) ≤ getD (places t) p noRequestor .within .0
+
+pub admitted : (limit : ℕ) (t : Table) → admissionVerdict limit t ≡ faultless → Admitted limit t
+unfolding admissionVerdict needVerdict
+admitted limit t e =
+    let a = then-open _ _ e in
+    record {
+      passes = a .0;
+      need = λ p h. leb-true _ _ (gate-open _ _ _ (rw (zero-add p) at (each-place-at (needVerdict (t .denominator) (places t)) 0 (places t) (a .1) p h)) .0) }

@@ -1,0 +1,110 @@
+use Rattle.arbiter.specs.Table.{rate, noRequestor}
+use Rattle.arbiter.specs.Limits.{maxPlaces}
+use Rattle.lists.proofs.Totals.{total-fewer}
+use Rattle.lists.specs.Sums.{total}
+use lib.ListN.{length, length-map, take, drop}
+use borrow.Author.Needs.{needs}
+use native.Mathlib.Omega.{arith}
+use Prim.Native.Nat.{ℕ, _+_, _-_, _≤_, _<_}
+use mathlib.Core.Path.{_≡_, refl, ap, sym, _∙_}
+use Prim.Native.Nat.{ℕ, _<_}
+use borrow.Fn.Kinds.{In}
+use borrow.Fn.PlainCycle.{Measures, is, falls, and}
+use Rattle.arbiter.proofs.sums.rates_above.Reads as rates-above
+use Rattle.arbiter.proofs.sums.rates_above.Kinds as rates-above-kinds
+use Rattle.arbiter.proofs.sums.+rates_above.Lts-rates_above as rates-above-lts
+use Rattle.arbiter.proofs.sums.+rates_above.{statement}
+use Rattle.arbiter.proofs.sums.+rates_above.Tie.{close}
+
+abbrev μ-rates-above : Measures 0 rates-above-kinds.ps ℕ
+μ-rates-above κs a = a .1 .0
+
+abbrev rates-above-at : ℕ → In 0 rates-above-kinds.ps
+rates-above-at t =
+    and 0 rates-above-kinds.ps (is 0 rates-above-kinds.ps μ-rates-above t) rates-above.Pre
+
+abbrev rates-above-below : ℕ → In 0 rates-above-kinds.ps
+rates-above-below t =
+    and 0 rates-above-kinds.ps (falls 0 rates-above-kinds.ps _<_ μ-rates-above t) rates-above.Pre
+
+-- src/sums.rt:32:17
+rates-above-sub-q :
+    (t : ℕ) →
+    rates-above-lts.Need-sub-q
+    (rates-above-below t, rates-above.Post)
+    (rates-above-at t)
+    rates-above.Post
+rates-above-sub-q t c = search needs
+
+-- src/sums.rt:33:17
+rates-above-mul-r :
+    (t : ℕ) →
+    rates-above-lts.Need-mul-r
+    (rates-above-below t, rates-above.Post)
+    (rates-above-at t)
+    rates-above.Post
+rates-above-mul-r t c = search needs
+
+-- src/sums.rt:33:17
+rates-above-element-copy-out-r : (t : ℕ) → rates-above-lts.Need-element-copy-out-r (
+  rates-above-below t,
+  rates-above.Post,
+) (rates-above-at t) rates-above.Post
+rates-above-element-copy-out-r t c = search needs
+
+-- src/sums.rt:34:9
+rates-above-rates-above-requires : (t : ℕ) → rates-above-lts.Need-rates-above-requires (
+  rates-above-below t,
+  rates-above.Post,
+) (rates-above-at t) rates-above.Post
+rates-above-rates-above-requires t c κs = omega arith
+
+-- src/sums.rt:34:30
+rates-above-cast-result : (t : ℕ) → rates-above-lts.Need-cast-result (
+  rates-above-below t,
+  rates-above.Post,
+) (rates-above-at t) rates-above.Post
+rates-above-cast-result t c = search needs
+
+-- src/sums.rt:34:9
+rates-above-add-result : (t : ℕ) → rates-above-lts.Need-add-result (
+  rates-above-below t,
+  rates-above.Post,
+) (rates-above-at t) rates-above.Post
+rates-above-add-result t c = search needs
+
+-- src/sums.rt:24:1
+rates-above-returns : (t : ℕ) → rates-above-lts.Need-returns (
+  rates-above-below t,
+  rates-above.Post,
+) (rates-above-at t) rates-above.Post
+unfolding total
+rates-above-returns t c = (rw (c .if1 .taken), omega arith)
+
+-- src/sums.rt:24:1
+rates-above-returns-2 : (t : ℕ) → rates-above-lts.Need-returns-2 (
+  rates-above-below t,
+  rates-above.Post,
+) (rates-above-at t) rates-above.Post
+rates-above-returns-2 t c =
+    let a = c .before .before .before .before in
+    let rs = a .args .t1 .requestors in
+    let long : length rs ≡ maxPlaces = sym (length-map rs _) ∙ a .good .0 .1 .1 .1 .1 .0 .1 .0 .1 in
+    let e = total-fewer rate noRequestor rs (a .args .p) (omega arith) (omega arith) in
+    (omega arith, omega arith)
+
+pub +rates-above-spec : {M : Type 1} → statement M
++rates-above-spec = close μ-rates-above λ t. rates-above-lts.spec (
+  rates-above-below t,
+  rates-above.Post,
+)
+    (rates-above-at t)
+    rates-above.Post
+    (rates-above-sub-q t)
+    (rates-above-mul-r t)
+    (rates-above-element-copy-out-r t)
+    (rates-above-rates-above-requires t)
+    (rates-above-cast-result t)
+    (rates-above-add-result t)
+    (rates-above-returns t)
+    (rates-above-returns-2 t)

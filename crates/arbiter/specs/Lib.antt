@@ -1,0 +1,9 @@
+-- The arbiter's values and checks, in document 01's order: its limits, the table and checks 1 to 6, the figures and check 7,
+-- the state and test 23, and start. Refusals stands first because every check names one.
+pub mod Limits
+pub mod Refusals
+pub mod Answers
+pub mod Table
+pub mod Figures
+pub mod State
+pub mod Start

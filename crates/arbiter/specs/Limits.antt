@@ -1,0 +1,34 @@
+-- Document 01, "Table and limits": the limits, each named once. `Arbiter::limits` ties each name to the code's constant.
+use Prim.Native.Nat.{ℕ}
+
+-- D, the table's common denominator
+abbrev pub maxDenominator : ℕ
+maxDenominator = 65535
+
+-- N, the number of requestors. Definitions take it as a parameter; only the contracts put this number there.
+abbrev pub maxPlaces : ℕ
+maxPlaces = 16
+
+-- b, a burst
+abbrev pub maxBurst : ℕ
+maxBurst = 16777216
+
+-- j, the transfers of a need
+abbrev pub maxNeed : ℕ
+maxNeed = 255
+
+-- L, the slots of a need
+abbrev pub maxWithin : ℕ
+maxWithin = 1073741824
+
+-- q, a backlog
+abbrev pub maxBacklog : ℕ
+maxBacklog = 65535
+
+-- a slot number: two to the power 62
+abbrev pub maxSlot : ℕ
+maxSlot = 4611686018427387904
+
+-- the bytes of a log or of the program's input
+abbrev pub maxInput : ℕ
+maxInput = 65536

@@ -1,0 +1,56 @@
+-- The arbiter's state, and document 01's test 23: "the state breaks a rule".
+use mathlib.Core.Bool.{Bool, true, false, _&&_}
+use mathlib.Core.List.{List}
+use Prim.Native.Nat.{ℕ}
+use lib.Dec.{leb, eqb}
+use lib.ListN.{take, drop, getD}
+use Rattle.lists.specs.Sums.{total, every, upTo}
+use Rattle.arbiter.specs.declared.table.Requestor.{Requestor}
+use Rattle.arbiter.specs.declared.state.Account.{Account}
+use Rattle.arbiter.specs.declared.state.Arbiter.{Arbiter}
+use Rattle.arbiter.specs.Limits.{maxBacklog, maxSlot}
+use Rattle.arbiter.specs.Refusals.{Verdict, faultless, fault, resolve}
+use Rattle.arbiter.specs.Table.{burst, noRequestor, places, tableVerdict}
+
+-- the credit c and the backlog q of an account
+abbrev pub credit : Account → ℕ
+credit a = a .credit
+
+abbrev pub backlog : Account → ℕ
+backlog a = a .backlog .0
+
+-- an account past place N−1: both fields are 0
+abbrev pub noAccount : Account
+noAccount = record { credit = 0; backlog = record { 0 = 0 } }
+
+abbrev pub accountClear : Account → Bool
+accountClear a = eqb (a .credit) 0 && eqb (a .backlog .0) 0
+
+abbrev pub backlogFits : Account → Bool
+backlogFits a = leb (backlog a) maxBacklog
+
+-- the requestor and the account of place p
+abbrev pub requestorAt : ℕ → List Requestor → Requestor
+requestorAt p rs = getD rs p noRequestor
+
+abbrev pub accountAt : ℕ → List Account → Account
+accountAt p accounts = getD accounts p noAccount
+
+-- the credits of the first k places sum to at most their bursts
+abbrev pub creditsHold : List Requestor → List Account → ℕ → Bool
+creditsHold rs accounts k = leb (total credit (take k accounts)) (total burst (take k rs))
+
+abbrev pub isFaultless : Verdict → Bool
+isFaultless v = resolve v true (λ r. false)
+
+-- what the accounts of N places must hold: backlogs within their limit, every credit sum, and 0 past place N−1
+unfoldable pub accountsSound : ℕ → List Requestor → List Account → Bool
+accountsSound n rs accounts =
+    every backlogFits (take n accounts)
+    && (upTo n (creditsHold rs accounts) && every accountClear (drop n accounts))
+
+-- the state breaks no rule; `limit` is the largest N
+unfoldable pub sound : ℕ → Arbiter → Bool
+sound limit s =
+    isFaultless (tableVerdict limit (s .table))
+    && (leb (s .slot .0) maxSlot && accountsSound (s .table .count) (s .table .requestors) (s .accounts))

@@ -1,0 +1,1 @@
+// Admission: the checks of a table given as numbers.

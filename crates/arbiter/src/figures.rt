@@ -1,0 +1,1 @@
+// The wait and the finish figure of a place, in slots.

@@ -1,0 +1,148 @@
+// The requestor table as numbers, and checks 1 to 6.
+use crate::units::Slots;
+use crate::units::Transfers;
+use crate::refusals::Verdict;
+use crate::refusals::Cause;
+use crate::refusals::InputRefusal;
+use crate::state::Arbiter;
+use crate::sums::rates_above;
+ghost use mathlib.Core.Path.{_≡_};
+ghost use Prim.Native.Nat.{_≤_};
+ghost use lib.ListN.{drop};
+ghost use Rattle.lists.specs.Choices.{inRange};
+ghost use Rattle.lists.specs.Sums.{every};
+ghost use Rattle.arbiter.specs.Limits.{maxPlaces};
+ghost use Rattle.arbiter.specs.Refusals.{verdictOf};
+ghost use Rattle.arbiter.specs.Table.{requestorClear, places, rowVerdict, eachPlace, tableVerdict};
+
+// One row of the table: the rate n, the burst b, and the need of j transfers within L slots.
+pub struct Requestor {
+    pub rate: u32,
+    pub burst: u32,
+    pub need: Transfers,
+    pub within: Slots,
+}
+
+// D, N and the rows; those past place N-1 are 0.
+pub struct Table {
+    pub denominator: u32,
+    pub count: usize,
+    pub requestors: [Requestor; Arbiter::MAX_PLACES],
+}
+
+fn in_range(low: u64, high: u64, x: u64) -> bool
+    ensures { λ r. ⌜ r ≡ inRange low high x ⌝ }
+{
+    if x < low {
+        return false;
+    }
+    x <= high
+}
+
+fn is_clear(r: Requestor) -> bool
+    ensures { λ b. ⌜ b ≡ requestorClear r ⌝ }
+{
+    let need = r.need;
+    let within = r.within;
+    if r.rate != 0 {
+        return false;
+    }
+    if r.burst != 0 {
+        return false;
+    }
+    if need.0 != 0 {
+        return false;
+    }
+    within.0 == 0
+}
+
+// Whether every row past place N-1 is 0.
+fn rest_is_clear(t: Table) -> bool
+    requires { ⌜ t .count ≤ maxPlaces ⌝ }
+    ensures { λ b. ⌜ b ≡ every requestorClear (drop (t .count) (t .requestors)) ⌝ }
+{
+    let mut p = t.count;
+    while p < Arbiter::MAX_PLACES {
+        let r = t.requestors[p];
+        if !is_clear(r) {
+            return false;
+        }
+        p = p + 1;
+    }
+    true
+}
+
+// Checks 3, 4 and 5 of the requestor at place p.
+fn check_row(d: u32, p: usize, r: Requestor) -> Verdict
+    ensures { λ v. ⌜ verdictOf v ≡ rowVerdict d p r ⌝ }
+{
+    let need = r.need;
+    let within = r.within;
+    if !in_range(1, d as u64, r.rate as u64) {
+        return Verdict::Fault(Cause::Input(InputRefusal::Rate(p)));
+    }
+    if !in_range(d as u64, Arbiter::MAX_BURST as u64, r.burst as u64) {
+        return Verdict::Fault(Cause::Input(InputRefusal::Burst(p)));
+    }
+    if !in_range(1, Arbiter::MAX_NEED as u64, need.0 as u64) {
+        return Verdict::Fault(Cause::Input(InputRefusal::Need(p)));
+    }
+    if !in_range(1, Arbiter::MAX_WITHIN, within.0) {
+        return Verdict::Fault(Cause::Input(InputRefusal::Need(p)));
+    }
+    Verdict::Faultless
+}
+
+// Checks 3, 4 and 5, place by place.
+fn check_rows(t: Table) -> Verdict
+    requires { ⌜ t .count ≤ maxPlaces ⌝ }
+    ensures { λ v. ⌜ verdictOf v ≡ eachPlace (rowVerdict (t .denominator)) 0 (places t) ⌝ }
+{
+    let d = t.denominator;
+    let n = t.count;
+    let mut p: usize = 0;
+    let v = loop {
+        if n <= p {
+            break Verdict::Faultless;
+        }
+        let r = t.requestors[p];
+        let w = check_row(d, p, r);
+        match w {
+            Verdict::Faultless => {
+                p = p + 1;
+            }
+            Verdict::Fault(_) => {
+                break w;
+            }
+        }
+    };
+    v
+}
+
+// Checks 1 to 6.
+pub fn check_table(t: Table) -> Verdict
+    ensures { λ v. ⌜ verdictOf v ≡ tableVerdict maxPlaces t ⌝ }
+{
+    let d = t.denominator;
+    let n = t.count;
+    if !in_range(1, Arbiter::MAX_DENOMINATOR as u64, d as u64) {
+        return Verdict::Fault(Cause::Input(InputRefusal::Denominator));
+    }
+    if !in_range(1, Arbiter::MAX_PLACES as u64, n as u64) {
+        return Verdict::Fault(Cause::Input(InputRefusal::Count));
+    }
+    if !rest_is_clear(t) {
+        return Verdict::Fault(Cause::Input(InputRefusal::Count));
+    }
+    let rows = check_rows(t);
+    match rows {
+        Verdict::Fault(_) => rows,
+        Verdict::Faultless => {
+            if (d as u64) < rates_above(t, n) {
+                Verdict::Fault(Cause::Input(InputRefusal::RateSum))
+            } else {
+                Verdict::Faultless
+            }
+        }
+    }
+}

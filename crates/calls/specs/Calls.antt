@@ -1,0 +1,94 @@
+-- Posts and slots on a state: what each does and answers, what turns it down, and 23 in front. `ruled` is the rule's own step,
+-- which passes over what 11, 21 and 22 turn down; `called` is what the contracts of post and slot say.
+use mathlib.Core.List.{List}
+use Prim.Native.Nat.{ℕ, _+_}
+use lib.Dec.{ltb, leb}
+use lib.ListN.{set}
+use Rattle.lists.specs.Runs.{Result}
+use Rattle.arbiter.specs.declared.state.Account.{Account}
+use Rattle.arbiter.specs.declared.state.Arbiter.{Arbiter}
+use Rattle.arbiter.specs.Limits.{maxBacklog, maxSlot}
+use Rattle.arbiter.specs.Refusals.{Verdict, faultless, refusal, refusalOf, gate, resolve}
+use Rattle.arbiter.specs.Answers.{Answer, accepted, granted, idle, refused}
+use Rattle.arbiter.specs.Table.{places}
+use Rattle.arbiter.specs.State.{backlog, accountAt, sound}
+use Rattle.calls.specs.declared.slot.Grant.{Grant}
+use Rattle.calls.specs.declared.slot.Grant.the-variants.{Nobody, Place}
+use Rattle.calls.specs.declared.post.PostAnswer.{PostAnswer}
+use Rattle.calls.specs.declared.post.PostAnswer.the-variants as post-answer
+use Rattle.calls.specs.declared.post.Posted.{Posted}
+use Rattle.calls.specs.declared.slot.SlotAnswer.{SlotAnswer}
+use Rattle.calls.specs.declared.slot.SlotAnswer.the-variants as slot-answer
+use Rattle.calls.specs.declared.slot.Slotted.{Slotted}
+use Rattle.calls.specs.Rule.{first, after}
+
+pub data Call : Type 0 where
+  post : (place count : ℕ) → Call
+  slot : Call
+
+-- whom a slot grants
+unfoldable pub grantOf : Arbiter → Grant
+grantOf s = first (s .table .denominator) (places (s .table)) (s .accounts)
+
+-- the state after a slot that granted g: every account, and 5. "the slot number rises by 1"
+unfoldable pub advanced : Arbiter → Grant → Arbiter
+advanced s g = record {
+    table = s .table;
+    slot = record { 0 = s .slot .0 + 1 };
+    accounts = after (s .table .denominator) g (places (s .table)) (s .accounts) }
+
+-- "A post adds a count (0 allowed) to one place's q."
+unfoldable pub more : ℕ → Account → Account
+more count a = record { credit = a .credit; backlog = record { 0 = backlog a + count } }
+
+unfoldable pub filled : Arbiter → ℕ → ℕ → Arbiter
+filled s p count = record {
+    table = s .table;
+    slot = s .slot;
+    accounts = set (s .accounts) p (more count (accountAt p (s .accounts))) }
+
+-- 5. "The stamp is the present slot number."
+abbrev pub slotAnswer : ℕ → Grant → Answer
+slotAnswer stamp Nobody = idle stamp
+slotAnswer stamp (Place p) = granted stamp p
+
+-- what an accepted call does and answers
+unfoldable pub done : Arbiter → Call → Result Arbiter Answer
+done s (post p count) = record { state = filled s p count; answer = accepted }
+done s slot = record { state = advanced s (grantOf s); answer = slotAnswer (s .slot .0) (grantOf s) }
+
+-- what turns a call down, tested on the state's own table, q, c and slot number. Post: 11, 21. Slot: 22.
+unfoldable pub ruleVerdict : Arbiter → Call → Verdict
+ruleVerdict s (post p count) =
+    gate (refusal 11) (ltb p (s .table .count))
+    (gate (refusal 21) (leb (backlog (accountAt p (s .accounts)) + count) maxBacklog)
+    faultless)
+ruleVerdict s slot = gate (refusal 22) (ltb (s .slot .0) maxSlot) faultless
+
+-- accepted: carried out whole; refused: the state is the one handed in
+abbrev pub outcome : Verdict → Arbiter → Call → Result Arbiter Answer
+outcome v s c = resolve v (done s c) (λ r. record { state = s; answer = refused r })
+
+-- the rule's own step
+unfoldable pub ruled : Arbiter → Call → Result Arbiter Answer
+ruled s c = outcome (ruleVerdict s c) s c
+
+-- a call with its checks in order, 23 first; `limit` is the largest N
+unfoldable pub called : ℕ → Arbiter → Call → Result Arbiter Answer
+called limit s c = outcome (gate (refusal 23) (sound limit s) (ruleVerdict s c)) s c
+
+-- the code's answers in document 01's values
+abbrev pub postAnswerOf : PostAnswer → Answer
+postAnswerOf post-answer.Accepted = accepted
+postAnswerOf (post-answer.Refused c) = refused (refusalOf c)
+
+abbrev pub slotAnswerOf : SlotAnswer → Answer
+slotAnswerOf (slot-answer.Granted stamp p) = granted (stamp .0) p
+slotAnswerOf (slot-answer.Idle stamp) = idle (stamp .0)
+slotAnswerOf (slot-answer.Refused c) = refused (refusalOf c)
+
+abbrev pub postedOf : Posted → Result Arbiter Answer
+postedOf r = record { state = r .state; answer = postAnswerOf (r .answer) }
+
+abbrev pub slottedOf : Slotted → Result Arbiter Answer
+slottedOf r = record { state = r .state; answer = slotAnswerOf (r .answer) }

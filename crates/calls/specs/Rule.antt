@@ -1,0 +1,50 @@
+-- Document 01, "The rule of a slot", over the denominator D, the requestors of places 0 to N−1 and the accounts of the same
+-- places. Accounts past the last requestor are left as they are.
+use mathlib.Core.Bool.{Bool, true, false}
+use mathlib.Core.List.{List, [], _∷_}
+use Prim.Native.Nat.{ℕ, zero, suc, _+_, _-_, min}
+use lib.Dec.{ltb, leb}
+use Rattle.lists.specs.Choices.{pick}
+use Rattle.arbiter.specs.declared.table.Requestor.{Requestor}
+use Rattle.arbiter.specs.declared.state.Account.{Account}
+use Rattle.arbiter.specs.State.{backlog}
+use Rattle.calls.specs.declared.slot.Grant.{Grant}
+use Rattle.calls.specs.declared.slot.Grant.the-variants.{Nobody, Place}
+
+-- 1. "A place is eligible when q is above 0 and c + n is at least D."
+unfoldable pub eligible : ℕ → Requestor → Account → Bool
+eligible d r a = pick (ltb 0 (backlog a)) (leb d (a .credit + r .rate)) false
+
+-- one place further on
+unfoldable pub later : Grant → Grant
+later Nobody = Nobody
+later (Place p) = Place (suc p)
+
+-- "The places are tried from 0 upward, and the search stops at the first eligible one. It is granted."
+unfoldable pub first : ℕ → List Requestor → List Account → Grant
+first d [] accounts = Nobody
+first d (r ∷ rs) [] = Nobody
+first d (r ∷ rs) (a ∷ accounts) = pick (eligible d r a) (Place 0) (later (first d rs accounts))
+
+-- 2. "The granted place: q falls by 1, c becomes c + n − D."
+unfoldable pub served : ℕ → Requestor → Account → Account
+served d r a = record { credit = a .credit + r .rate - d; backlog = record { 0 = backlog a - 1 } }
+
+-- 3. "Any other place with q above 0: c becomes c + n."
+-- 4. "Any other place with q equal to 0: c becomes the lesser of c + n and b."
+unfoldable pub passed : Requestor → Account → Account
+passed r a = record {
+    credit = pick (ltb 0 (backlog a)) (a .credit + r .rate) (min (a .credit + r .rate) (r .burst));
+    backlog = a .backlog }
+
+-- every account after a slot that granted the place named
+unfoldable pub after : ℕ → Grant → List Requestor → List Account → List Account
+after d g [] accounts = accounts
+after d g (r ∷ rs) [] = []
+after d Nobody (r ∷ rs) (a ∷ accounts) = passed r a ∷ after d Nobody rs accounts
+after d (Place zero) (r ∷ rs) (a ∷ accounts) = served d r a ∷ after d Nobody rs accounts
+after d (Place (suc p)) (r ∷ rs) (a ∷ accounts) = passed r a ∷ after d (Place p) rs accounts
+
+-- every account after a slot
+unfoldable pub slotted : ℕ → List Requestor → List Account → List Account
+slotted d rs accounts = after d (first d rs accounts) rs accounts

@@ -1,0 +1,71 @@
+-- Laws on tests over a list and over numbers: what a test that passes says of each element, and the other way round.
+-- Assumes nothing.
+use mathlib.Core.Path.{_≡_, refl, sym, _∙_}
+use mathlib.Core.Bool.{Bool, true, false, _&&_}
+use mathlib.Core.List.{List, [], _∷_}
+use Prim.Native.Nat.{ℕ, zero, suc, _+_, _≤_, _<_}
+use native.Mathlib.Nat.{not-suc-le-zero}
+use native.Mathlib.Omega.{arith}
+use borrow.Author.Tests.{leb-true, le-leb, eqb-true, eqb-false}
+use lib.Dec.{leb, eqb}
+use native.Mathlib.Numerals.{add-one}
+use lib.ListN.{length, getD, drop, drop-of-length-le}
+use lib.Seq.{drop-cons}
+use Rattle.lists.specs.Choices.{inRange, cases}
+use Rattle.lists.specs.Sums.{every, upTo}
+
+pub true-false : {X : Type 0} → true ≡ false → X
+true-false e = let z : _≡_ {A = ℕ} 0 1 = cc in absurd (omega arith)
+
+pub and-true : (a b : Bool) → (a && b) ≡ true → (a ≡ true) × (b ≡ true)
+and-true true b e = (refl, e)
+and-true false b e = true-false (sym e)
+
+pub true-and : (a b : Bool) → a ≡ true → b ≡ true → (a && b) ≡ true
+true-and a b p q = rw (p, q)
+
+pub in-range-true : (low high x : ℕ) → inRange low high x ≡ true → (low ≤ x) × (x ≤ high)
+in-range-true low high x e =
+    let a = and-true (leb low x) (leb x high) e in
+    (leb-true low x (a .0), leb-true x high (a .1))
+
+module _ {A : Type 0} (test : A → Bool) (z : A) where
+  pub every-at : (xs : List A) → every test xs ≡ true → (i : ℕ) → i < length xs → test (getD xs i z) ≡ true
+  unfolding every
+  every-at [] e i h = absurd (not-suc-le-zero h)
+  every-at (x ∷ xs) e zero h = and-true (test x) (every test xs) e .0
+  every-at (x ∷ xs) e (suc i) h = every-at xs (and-true (test x) (every test xs) e .1) i (omega arith)
+
+  pub at-every : (xs : List A) → ((i : ℕ) → i < length xs → test (getD xs i z) ≡ true) → every test xs ≡ true
+  unfolding every
+  at-every [] h = refl
+  at-every (x ∷ xs) h = true-and (test x) (every test xs) (h 0 (omega arith)) (at-every xs (λ i l. h (suc i) (omega arith)))
+
+  -- a walk over a list, from element i on: what its next step is
+  pub every-pass : (xs : List A) (i : ℕ) → i < length xs → test (getD xs i z) ≡ true → every test (drop i xs) ≡ every test (drop (i + 1) xs)
+  unfolding every
+  every-pass xs i h e = rw (drop-cons xs i z h, e, add-one)
+
+  pub every-stop : (xs : List A) (i : ℕ) → i < length xs → test (getD xs i z) ≡ false → every test (drop i xs) ≡ false
+  unfolding every
+  every-stop xs i h e = rw (drop-cons xs i z h, e)
+
+  pub every-end : (xs : List A) (i : ℕ) → length xs ≤ i → every test (drop i xs) ≡ true
+  unfolding every
+  every-end xs i h = rw (drop-of-length-le xs h)
+
+module _ (test : ℕ → Bool) where
+  pub up-to-at : (n : ℕ) → upTo n test ≡ true → (k : ℕ) → 1 ≤ k → k ≤ n → test k ≡ true
+  unfolding upTo
+  up-to-at zero e k l h = absurd (omega arith)
+  up-to-at (suc n) e k l h = cases (eqb k (suc n))
+      (λ q. rw (eqb-true k (suc n) q) (and-true (upTo n test) (test (suc n)) e .1))
+      (λ q. up-to-at n (and-true (upTo n test) (test (suc n)) e .0) k l (below q))
+    where
+      below : eqb k (suc n) ≡ false → k ≤ n
+      below q = let d = eqb-false k (suc n) q in omega arith
+
+  pub at-up-to : (n : ℕ) → ((k : ℕ) → 1 ≤ k → k ≤ n → test k ≡ true) → upTo n test ≡ true
+  unfolding upTo
+  at-up-to zero h = refl
+  at-up-to (suc n) h = true-and (upTo n test) (test (suc n)) (at-up-to n (λ k l m. h k l (omega arith))) (h (suc n) (omega arith) (omega arith))

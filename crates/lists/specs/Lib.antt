@@ -1,0 +1,4 @@
+-- What every other crate's definitions are made of: choices, sums, tests over a list, and runs of calls on any state.
+pub mod Choices
+pub mod Sums
+pub mod Runs
