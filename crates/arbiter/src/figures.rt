@@ -1,1 +1,45 @@
 // The wait and the finish figure of a place, in slots.
+use crate::units::Slots;
+use crate::units::Transfers;
+use crate::table::Table;
+use crate::sums::bursts_above;
+use crate::sums::rates_above;
+ghost use mathlib.Core.Path.{_≡_};
+ghost use Prim.Native.Nat.{ℕ, _+_, _≤_, _<_, _^_};
+ghost use Rattle.arbiter.specs.Limits.{maxPlaces};
+ghost use Rattle.arbiter.specs.Refusals.{faultless};
+ghost use Rattle.arbiter.specs.Table.{places, tableVerdict};
+ghost use Rattle.arbiter.specs.Figures.{roundedUp, burstsAbove, rateLeft, waitOf, finish};
+
+// a / b, rounded up.
+fn rounded_up(a: u64, b: u64) -> u64
+    requires { ⌜ (1 ≤ b) × (a + b < 2 ^ 64) ⌝ }
+    ensures figure { λ (r : ℕ). ⌜ r ≡ roundedUp a b ⌝ }
+    ensures small { λ (r : ℕ). ⌜ r ≤ a + b ⌝ }
+{
+    (a + (b - 1)) / b
+}
+
+// The reported wait of place p: B / R, rounded up.
+pub(crate) fn wait(t: Table, p: usize) -> Slots
+    requires { ⌜ (tableVerdict maxPlaces t ≡ faultless) × (p < t .count) ⌝ }
+    ensures figure { λ r. ⌜ r .0 ≡ waitOf (burstsAbove p (places t)) (rateLeft (t .denominator) p (places t)) ⌝ }
+    ensures small { λ r. ⌜ r .0 < 2 ^ 62 ⌝ }
+{
+    let d = t.denominator;
+    let left = (d as u64) - rates_above(t, p);
+    Slots(rounded_up(bursts_above(t, p), left))
+}
+
+// The finish figure of place p for j transfers: the wait, and j * D / n rounded up.
+pub(crate) fn finish(t: Table, p: usize, j: Transfers) -> Slots
+    requires { ⌜ (tableVerdict maxPlaces t ≡ faultless) × (p < t .count) ⌝ }
+    ensures { λ r. ⌜ r .0 ≡ finish (t .denominator) (places t) p (j .0) ⌝ }
+{
+    let d = t.denominator;
+    let r = t.requestors[p];
+    let n = r.rate;
+    let w = wait(t, p);
+    let transfer = rounded_up((j.0 as u64) * (d as u64), n as u64);
+    Slots(w.0 + transfer)
+}

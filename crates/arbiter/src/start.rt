@@ -1,6 +1,15 @@
-// What a start answers.
+// What a start answers, and the states it hands back.
+use crate::units::Slots;
+use crate::units::Transfers;
 use crate::refusals::Cause;
+use crate::table::Requestor;
+use crate::table::Table;
+use crate::state::Account;
 use crate::state::Arbiter;
+ghost use mathlib.Core.Path.{_≡_};
+ghost use mathlib.Core.List.{map};
+ghost use Rattle.arbiter.specs.Limits.{maxPlaces};
+ghost use Rattle.arbiter.specs.Start.{fresh, noState};
 
 pub enum StartAnswer {
     Started,
@@ -10,4 +19,30 @@ pub enum StartAnswer {
 pub struct Started {
     pub state: Arbiter,
     pub answer: StartAnswer,
+}
+
+// Each credit is the burst and each backlog is 0; past place N-1 the burst is 0 too.
+pub(crate) fn opening_accounts(t: Table) -> [Account; Arbiter::MAX_PLACES]
+    ensures { λ r. ⌜ r ≡ map fresh (t .requestors) ⌝ }
+{
+    let empty = Account { credit: 0, backlog: Transfers(0) };
+    let mut accounts = [empty; Arbiter::MAX_PLACES];
+    let mut p: usize = 0;
+    while p < Arbiter::MAX_PLACES {
+        let r = t.requestors[p];
+        accounts[p] = Account { credit: r.burst, backlog: Transfers(0) };
+        p = p + 1;
+    }
+    accounts
+}
+
+// The state whose every field is 0.
+pub(crate) fn no_state() -> Arbiter
+    ensures { λ r. ⌜ r ≡ noState maxPlaces ⌝ }
+{
+    let row = Requestor { rate: 0, burst: 0, need: Transfers(0), within: Slots(0) };
+    let empty = Account { credit: 0, backlog: Transfers(0) };
+    let rows = [row; Arbiter::MAX_PLACES];
+    let table = Table { denominator: 0, count: 0, requestors: rows };
+    Arbiter { table: table, slot: Slots(0), accounts: [empty; Arbiter::MAX_PLACES] }
 }

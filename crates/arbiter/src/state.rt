@@ -1,9 +1,24 @@
-// The arbiter's state, its limits, and test 23.
+// The arbiter's state, its limits, test 23, and start.
 use crate::units::Slots;
 use crate::units::Transfers;
+use crate::refusals::Verdict;
+use crate::refusals::Cause;
+use crate::refusals::InputRefusal;
 use crate::table::Table;
+use crate::table::check_table;
+use crate::admission::admit;
+use crate::start::Started;
+use crate::start::StartAnswer;
+use crate::start::opening_accounts;
+use crate::start::no_state;
 ghost use mathlib.Core.Path.{_≡_};
+ghost use mathlib.Core.Bool.{_&&_};
+ghost use Prim.Native.Nat.{_≤_};
+ghost use lib.ListN.{take, drop};
+ghost use Rattle.lists.specs.Sums.{every, upTo};
 ghost use Rattle.arbiter.specs.Limits.{maxDenominator, maxPlaces, maxBurst, maxNeed, maxWithin, maxBacklog, maxSlot, maxInput};
+ghost use Rattle.arbiter.specs.State.{accountClear, backlogFits, creditsHold, sound};
+ghost use Rattle.arbiter.specs.Start.{start, resultOf};
 
 // What a slot changes of one place: its credit c and its backlog q.
 pub struct Account {
@@ -16,6 +31,60 @@ pub struct Arbiter {
     pub table: Table,
     pub slot: Slots,
     pub accounts: [Account; Arbiter::MAX_PLACES],
+}
+
+fn account_is_clear(a: Account) -> bool
+    ensures { λ b. ⌜ b ≡ accountClear a ⌝ }
+{
+    let q = a.backlog;
+    if a.credit != 0 {
+        return false;
+    }
+    q.0 == 0
+}
+
+// Whether every account past place N-1 is 0.
+fn other_accounts_are_clear(s: Arbiter) -> bool
+    requires { ⌜ s .table .count ≤ maxPlaces ⌝ }
+    ensures { λ b. ⌜ b ≡ every accountClear (drop (s .table .count) (s .accounts)) ⌝ }
+{
+    let t = s.table;
+    let mut p = t.count;
+    while p < Arbiter::MAX_PLACES {
+        let a = s.accounts[p];
+        if !account_is_clear(a) {
+            return false;
+        }
+        p = p + 1;
+    }
+    true
+}
+
+// Whether no backlog passes its limit and no credit sum passes the burst sum.
+fn accounts_hold(s: Arbiter) -> bool
+    requires { ⌜ s .table .count ≤ maxPlaces ⌝ }
+    ensures { λ b. ⌜ b ≡ (every backlogFits (take (s .table .count) (s .accounts)) && upTo (s .table .count) (creditsHold (s .table .requestors) (s .accounts))) ⌝ }
+{
+    let t = s.table;
+    let n = t.count;
+    let mut credits: u64 = 0;
+    let mut bursts: u64 = 0;
+    let mut p: usize = 0;
+    while p < n {
+        let r = t.requestors[p];
+        let a = s.accounts[p];
+        let q = a.backlog;
+        if Arbiter::MAX_BACKLOG < q.0 {
+            return false;
+        }
+        credits = credits + (a.credit as u64);
+        bursts = bursts + (r.burst as u64);
+        if bursts < credits {
+            return false;
+        }
+        p = p + 1;
+    }
+    true
 }
 
 impl Arbiter {
@@ -40,5 +109,43 @@ impl Arbiter {
         ensures { λ _. do ⌜ (← ⟦Arbiter::MAX_SLOT⟧ .entry) ≡ maxSlot ⌝ }
         ensures { λ _. do ⌜ (← ⟦Arbiter::MAX_INPUT⟧ .entry) ≡ maxInput ⌝ }
     {
+    }
+
+    // Test 23: whether the state breaks no rule.
+    pub fn is_sound(self) -> bool
+        ensures { λ b. ⌜ b ≡ sound maxPlaces self ⌝ }
+    {
+        let t = self.table;
+        let slot = self.slot;
+        let v = check_table(t);
+        match v {
+            Verdict::Fault(_) => false,
+            Verdict::Faultless => {
+                if Arbiter::MAX_SLOT < slot.0 {
+                    return false;
+                }
+                if !accounts_hold(self) {
+                    return false;
+                }
+                other_accounts_are_clear(self)
+            }
+        }
+    }
+
+    // The state of a table and a first slot number that pass every check; else one whose every field is 0.
+    pub fn start(t: Table, first: Slots) -> Started
+        ensures { λ r. ⌜ resultOf r ≡ start maxPlaces t (first .0) ⌝ }
+    {
+        let v = admit(t);
+        match v {
+            Verdict::Fault(c) => Started { state: no_state(), answer: StartAnswer::Refused(c) },
+            Verdict::Faultless => {
+                if Arbiter::MAX_SLOT < first.0 {
+                    return Started { state: no_state(), answer: StartAnswer::Refused(Cause::Input(InputRefusal::FirstSlot)) };
+                }
+                let accounts = opening_accounts(t);
+                Started { state: Arbiter { table: t, slot: first, accounts: accounts }, answer: StartAnswer::Started }
+            }
+        }
     }
 }

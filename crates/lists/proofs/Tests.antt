@@ -9,7 +9,7 @@ use native.Mathlib.Omega.{arith}
 use borrow.Author.Tests.{leb-true, le-leb, eqb-true, eqb-false}
 use lib.Dec.{leb, eqb}
 use native.Mathlib.Numerals.{add-one}
-use lib.ListN.{length, getD, drop, drop-of-length-le}
+use lib.ListN.{length, getD, take, drop, drop-of-length-le}
 use lib.Seq.{drop-cons}
 use Rattle.lists.specs.Choices.{inRange, cases}
 use Rattle.lists.specs.Sums.{every, upTo}
@@ -23,6 +23,19 @@ and-true false b e = true-false (sym e)
 
 pub true-and : (a b : Bool) → a ≡ true → b ≡ true → (a && b) ≡ true
 true-and a b p q = rw (p, q)
+
+pub and-false : (a b : Bool) → b ≡ false → (a && b) ≡ false
+and-false true b e = e
+and-false false b e = refl
+
+-- three tests of which the first two were made together
+pub and-both-true : (a b c : Bool) → (a && b) ≡ true → c ≡ (a && (b && c))
+and-both-true a b c e = let h = and-true a b e in rw (h .0, h .1)
+
+pub and-both-false : (a b c : Bool) → (a && b) ≡ false → false ≡ (a && (b && c))
+and-both-false true true c e = true-false e
+and-both-false true false c e = refl
+and-both-false false b c e = refl
 
 pub in-range-true : (low high x : ℕ) → inRange low high x ≡ true → (low ≤ x) × (x ≤ high)
 in-range-true low high x e =
@@ -40,6 +53,20 @@ module _ {A : Type 0} (test : A → Bool) (z : A) where
   unfolding every
   at-every [] h = refl
   at-every (x ∷ xs) h = true-and (test x) (every test xs) (h 0 (omega arith)) (at-every xs (λ i l. h (suc i) (omega arith)))
+
+  pub every-more : (xs : List A) (i : ℕ) → every test (take i xs) ≡ true → test (getD xs i z) ≡ true → every test (take (suc i) xs) ≡ true
+  unfolding every
+  every-more [] i e t = refl
+  every-more (x ∷ xs) zero e t = true-and (test x) true t refl
+  every-more (x ∷ xs) (suc i) e t =
+      let a = and-true (test x) (every test (take i xs)) e in
+      true-and (test x) (every test (take (suc i) xs)) (a .0) (every-more xs i (a .1) t)
+
+  pub every-fails : (xs : List A) (i : ℕ) → i < length xs → test (getD xs i z) ≡ false → every test xs ≡ false
+  unfolding every
+  every-fails [] i h e = absurd (not-suc-le-zero h)
+  every-fails (x ∷ xs) zero h e = rw e
+  every-fails (x ∷ xs) (suc i) h e = and-false (test x) (every test xs) (every-fails xs i (omega arith) e)
 
   -- a walk over a list, from element i on: what its next step is
   pub every-pass : (xs : List A) (i : ℕ) → i < length xs → test (getD xs i z) ≡ true → every test (drop i xs) ≡ every test (drop (i + 1) xs)
@@ -69,3 +96,13 @@ module _ (test : ℕ → Bool) where
   unfolding upTo
   at-up-to zero h = refl
   at-up-to (suc n) h = true-and (upTo n test) (test (suc n)) (at-up-to n (λ k l m. h k l (omega arith))) (h (suc n) (omega arith) (omega arith))
+
+  pub up-to-fails : (n k : ℕ) → 1 ≤ k → k ≤ n → test k ≡ false → upTo n test ≡ false
+  unfolding upTo
+  up-to-fails zero k l h e = absurd (omega arith)
+  up-to-fails (suc n) k l h e = cases (eqb k (suc n))
+      (λ q. and-false (upTo n test) (test (suc n)) (rw (eqb-true k (suc n) q) at e))
+      (λ q. below (up-to-fails n k l) (eqb-false k (suc n) q))
+    where
+      below : (k ≤ n → test k ≡ false → upTo n test ≡ false) → (k ≡ suc n → ⊥) → (upTo n test && test (suc n)) ≡ false
+      below fails q = let d : k ≤ n = omega arith in rw (fails d e)

@@ -20,3 +20,11 @@ module _ {A : Type 0} (f : A → ℕ) (z : A) where
   total-fewer xs k l h =
       let back : suc (k - 1) ≡ k = omega arith in
       rw back at (total-more xs (k - 1) (omega arith))
+
+  -- a sum over fewer elements is at most the whole
+  pub total-take : (xs : List A) (k : ℕ) → total f (take k xs) ≤ total f xs
+  unfolding total
+  total-take [] zero = omega arith
+  total-take [] (suc k) = omega arith
+  total-take (x ∷ xs) zero = omega arith
+  total-take (x ∷ xs) (suc k) = omega (arith, total-take xs k)

@@ -1,0 +1,45 @@
+-- The sums above a place of a table that passes checks 1 to 6: they fit below D, and the place's own rate is left.
+-- Assumes nothing.
+use mathlib.Core.Path.{_≡_, refl, ap, sym}
+use mathlib.Core.List.{List}
+use Prim.Native.Nat.{ℕ, suc, _+_, _-_, _≤_, _<_}
+use native.Mathlib.Omega.{arith}
+use lib.ListN.{length, getD, take, length-take}
+use lib.Seq.{getD-take, take-take}
+use Rattle.lists.specs.Sums.{total}
+use Rattle.lists.proofs.Totals.{total-more, total-take}
+use Rattle.arbiter.specs.declared.table.Requestor.{Requestor}
+use Rattle.arbiter.specs.declared.table.Table.{Table}
+use Rattle.arbiter.specs.Limits.{maxDenominator}
+use Rattle.arbiter.specs.Refusals.{faultless}
+use Rattle.arbiter.specs.Table.{rate, burst, noRequestor, places, tableVerdict}
+use Rattle.arbiter.specs.Figures.{burstsAbove, ratesAbove}
+use Rattle.arbiter.proofs.Checks.{Fair, fair}
+
+-- of place p, below N
+pub record Above (limit : ℕ) (t : Table) (p : ℕ) : Type 0 where
+  pub place : p < limit
+  pub denominator-most : t .denominator ≤ maxDenominator
+  pub own-rate : 1 ≤ getD (t .requestors) p noRequestor .rate
+  pub rates : ratesAbove p (t .requestors) + getD (t .requestors) p noRequestor .rate ≤ t .denominator
+  -- the table's own rows and the rows of places 0 to N−1 are the same up to here
+  pub same-rates : ratesAbove p (places t) ≡ ratesAbove p (t .requestors)
+  pub same-bursts : burstsAbove p (places t) ≡ burstsAbove p (t .requestors)
+  pub same-row : getD (places t) p noRequestor ≡ getD (t .requestors) p noRequestor
+
+pub above : (limit : ℕ) (t : Table) (p : ℕ) → length (t .requestors) ≡ limit → tableVerdict limit t ≡ faultless → p < t .count → Above limit t p
+above limit t p long ok h =
+    let f = fair limit t ok in
+    let inside : p < length (places t) = simp length-take (omega (arith, f .count-most)) in
+    let row = getD-take (t .count) (t .requestors) p noRequestor h in
+    let cut = take-take p (t .count) (t .requestors) (omega arith) in
+    let least : 1 ≤ getD (t .requestors) p noRequestor .rate = rw row at (f .row p inside .rate-least) in
+    let sum = rw (cut, row) at (total-more rate noRequestor (places t) p inside) in
+    record {
+      place = omega (arith, f .count-most);
+      denominator-most = f .denominator-most;
+      own-rate = least;
+      rates = omega (arith, sum, total-take rate noRequestor (places t) (suc p), f .rate-sum);
+      same-rates = ap (total rate) cut;
+      same-bursts = ap (total burst) cut;
+      same-row = row }

@@ -1,0 +1,181 @@
+use mathlib.Core.List.{List}
+use Rattle.arbiter.specs.declared.table.Requestor.{Requestor}
+use Rattle.arbiter.specs.declared.state.Account.{Account}
+use mathlib.Core.Path.{_≡_, refl, ap, sym, _∙_}
+use Prim.Native.Nat.{ℕ, _+_, _-_, _≤_, _<_}
+use native.Mathlib.Omega.{arith}
+use borrow.Author.Needs.{needs}
+use lib.ListN.{length, length-map, take, drop}
+use Prim.Native.Nat.{suc, _*_}
+use mathlib.Core.Bool.{true, false, _&&_}
+use native.Mathlib.Numerals.{add-one}
+use lib.ListN.{getD, length-take}
+use lib.Seq.{getD-take}
+use borrow.Author.Tests.{le-leb, lt-leb}
+use Rattle.lists.specs.Sums.{total, every, upTo}
+use Rattle.lists.proofs.Tests.{true-and, and-false, every-more, every-fails, up-to-fails}
+use Rattle.lists.proofs.Totals.{total-more}
+use Rattle.arbiter.specs.Limits.{maxPlaces}
+use Rattle.arbiter.specs.Table.{burst, noRequestor}
+use Rattle.arbiter.specs.State.{credit, noAccount, backlogFits, creditsHold}
+use Rattle.arbiter.proofs.state.accounts_hold.Statement.{statement}
+use Rattle.arbiter.proofs.state.accounts_hold.Tie as tie
+use Rattle.arbiter.proofs.state.accounts_hold.Reads as reads
+use Rattle.arbiter.proofs.state.accounts_hold.Lts as lts
+
+-- what the loop has found after p places: the sums, which fit, and that every test so far passed
+pub record Held (n : ℕ) (rs : List Requestor) (accounts : List Account) (credits bursts p : ℕ) : Type 0 where
+  pub below : p ≤ n
+  pub credits-are : credits ≡ total credit (take p accounts)
+  pub bursts-are : bursts ≡ total burst (take p rs)
+  pub credits-fit : credits ≤ p * 4294967295
+  pub bursts-fit : bursts ≤ p * 4294967295
+  pub backlogs : every backlogFits (take p accounts) ≡ true
+  pub sums : upTo p (creditsHold rs accounts) ≡ true
+
+held-none : (n : ℕ) (rs : List Requestor) (accounts : List Account) → Held n rs accounts 0 0 0
+unfolding total every upTo
+held-none n rs accounts = record { below = omega arith; credits-are = refl; bursts-are = refl; credits-fit = omega arith; bursts-fit = omega arith; backlogs = refl; sums = refl }
+
+held-more : (n : ℕ) (rs : List Requestor) (accounts : List Account) (credits bursts p c b : ℕ)
+    → p < n → p < length rs → p < length accounts → c ≡ getD accounts p noAccount .credit → b ≡ getD rs p noRequestor .burst → c ≤ 4294967295 → b ≤ 4294967295
+    → backlogFits (getD accounts p noAccount) ≡ true → credits + c ≤ bursts + b
+    → Held n rs accounts credits bursts p → Held n rs accounts (credits + c) (bursts + b) (p + 1)
+unfolding upTo
+held-more n rs accounts credits bursts p c b h k l ec eb fc fb q s v =
+    let cs : credits + c ≡ total credit (take (suc p) accounts) = omega (arith, total-more credit noAccount accounts p l, v .credits-are) in
+    let bs : bursts + b ≡ total burst (take (suc p) rs) = omega (arith, total-more burst noRequestor rs p k, v .bursts-are) in
+    rw (add-one p)
+    (record {
+      below = h; credits-are = cs; bursts-are = bs;
+      credits-fit = omega (arith, v .credits-fit); bursts-fit = omega (arith, v .bursts-fit);
+      backlogs = every-more backlogFits noAccount accounts p (v .backlogs) q;
+      sums = true-and (upTo p (creditsHold rs accounts)) _ (v .sums) (le-leb (total credit (take (suc p) accounts)) (total burst (take (suc p) rs)) (omega arith)) })
+
+abbrev Inv-loop : tie.InvT-loop
+Inv-loop s t n credits₀ bursts₀ p₀ credits bursts p = Held n (t .requestors) (s .accounts) credits bursts p
+
+abbrev μ-loop : tie.MeasureT-loop
+μ-loop s t n credits₀ bursts₀ p₀ credits bursts p = n - p
+
+-- the arrays' lengths
+rows : (c : tie.Start Inv-loop μ-loop) → length (c .args .t1 .table .requestors) ≡ maxPlaces
+rows c = sym (length-map (c .args .t1 .table .requestors) _) ∙ c .good .0 .1 .1 .0 .1 .1 .1 .1 .0 .1 .0 .1
+
+long : (c : tie.Start Inv-loop μ-loop) → length (c .args .t1 .accounts) ≡ maxPlaces
+long c = sym (length-map (c .args .t1 .accounts) _) ∙ c .good .0 .1 .1 .1 .1 .0 .1 .0 .1
+
+-- src/state.rt:73:5
+loop-holds : tie.Need-loop-holds Inv-loop μ-loop
+loop-holds c = held-none _ _ _
+
+-- src/state.rt:74:17
+mul-r : tie.Need-mul-r Inv-loop μ-loop
+mul-r c = omega arith
+
+-- src/state.rt:74:17
+element-copy-out-r : tie.Need-element-copy-out-r Inv-loop μ-loop
+element-copy-out-r c = omega arith
+
+-- src/state.rt:75:17
+mul-a : tie.Need-mul-a Inv-loop μ-loop
+mul-a c = omega arith
+
+-- src/state.rt:75:17
+element-copy-out-a : tie.Need-element-copy-out-a Inv-loop μ-loop
+element-copy-out-a c = omega arith
+
+-- src/state.rt:78:13
+returns : tie.Need-returns Inv-loop μ-loop
+returns c = 
+    let a = (c .before .before .before .before .before .before .before .before) in
+    let l = c .before .before .before .before .before .before .loop in
+    let rs = a .args .t1 .table .requestors in
+    let accounts = a .args .t1 .accounts in
+    let n = a .args .t1 .table .count in
+    let v = l .inv in
+    let inside : l .p < length (take n accounts) = simp length-take (omega (arith, long a)) in
+    let e = every-fails backlogFits noAccount (take n accounts) (l .p) inside (rw (getD-take n accounts (l .p) noAccount (omega arith)) (lt-leb _ _ (c .if1 .taken))) in
+    rw e
+
+-- src/state.rt:80:30
+cast-credits : tie.Need-cast-credits Inv-loop μ-loop
+cast-credits c = omega arith
+
+-- src/state.rt:80:19
+add-credits : tie.Need-add-credits Inv-loop μ-loop
+add-credits c = omega arith
+
+-- src/state.rt:81:28
+cast-bursts : tie.Need-cast-bursts Inv-loop μ-loop
+cast-bursts c = omega arith
+
+-- src/state.rt:81:18
+add-bursts : tie.Need-add-bursts Inv-loop μ-loop
+add-bursts c = omega arith
+
+-- src/state.rt:83:13
+returns-2 : tie.Need-returns-2 Inv-loop μ-loop
+returns-2 c = 
+    let a = (c .before .before .before .before .before .before .before .before .before .before .before) in
+    let l = c .before .before .before .before .before .before .before .before .before .loop in
+    let rs = a .args .t1 .table .requestors in
+    let accounts = a .args .t1 .accounts in
+    let n = a .args .t1 .table .count in
+    let credits = total-more credit noAccount accounts (l .p) (omega (arith, long a)) in
+    let bursts = total-more burst noRequestor rs (l .p) (omega (arith, rows a)) in
+    let over = lt-leb (total credit (take (suc (l .p)) accounts)) (total burst (take (suc (l .p)) rs)) (omega (arith, c .if2 .taken)) in
+    sym (and-false (every backlogFits (take n accounts)) (upTo n (creditsHold rs accounts)) (up-to-fails (creditsHold rs accounts) n (suc (l .p)) (omega arith) (omega arith) over))
+
+-- src/state.rt:85:13
+add-p : tie.Need-add-p Inv-loop μ-loop
+add-p c = omega arith
+
+-- src/state.rt:73:5
+loop-less : tie.Need-loop-less Inv-loop μ-loop
+loop-less c = omega arith
+
+-- src/state.rt:73:5
+loop-again : tie.Need-loop-again Inv-loop μ-loop
+loop-again c = 
+    let a = (c .before .before .before .before .before .before .before .before .before .before .before) in
+    let l = c .before .before .before .before .before .before .before .before .before .loop in
+    let rs = a .args .t1 .table .requestors in
+    let accounts = a .args .t1 .accounts in
+    let n = a .args .t1 .table .count in
+    held-more n rs accounts (l .credits) (l .bursts) (l .p) (getD accounts (l .p) noAccount .credit) (getD rs (l .p) noRequestor .burst)
+      (omega arith) (omega (arith, rows a)) (omega (arith, long a)) refl refl (omega (arith, c .before .before .struct-known2 .given)) (omega (arith, c .before .struct-known3 .given))
+      (le-leb _ _ (c .before .before .before .if1 .left)) (c .if2 .left) (l .inv)
+
+-- src/state.rt:64:1
+returns-3 : tie.Need-returns-3 Inv-loop μ-loop
+returns-3 c = 
+    let a = (c .before .before .before) in
+    let l = c .before .loop in
+    let rs = a .args .t1 .table .requestors in
+    let accounts = a .args .t1 .accounts in
+    let n = a .args .t1 .table .count in
+    let e : l .p ≡ n = omega arith in
+    rw (← e) (sym (true-and _ _ (l .inv .backlogs) (l .inv .sums)))
+
+pub accounts-hold-spec : {M : Type 1} → statement M
+accounts-hold-spec =
+    tie.close
+    (tie.spec
+    Inv-loop
+    μ-loop
+    loop-holds
+    mul-r
+    element-copy-out-r
+    mul-a
+    element-copy-out-a
+    returns
+    cast-credits
+    add-credits
+    cast-bursts
+    add-bursts
+    returns-2
+    add-p
+    loop-less
+    loop-again
+    returns-3)

@@ -1,0 +1,25 @@
+-- A list ys of which the first i elements have been overwritten by those of xs. Assumes nothing.
+use mathlib.Core.Path.{_≡_, refl, ap}
+use mathlib.Core.List.{List, [], _∷_, _++_, append-nil}
+use Prim.Native.Nat.{ℕ, zero, suc, _+_, _≤_, _<_}
+use native.Mathlib.Nat.{not-suc-le-zero}
+use native.Mathlib.Numerals.{add-one}
+use native.Mathlib.Omega.{arith}
+use lib.ListN.{length, getD, take, drop, set, drop-of-length-le}
+use lib.Seq.{take-all}
+
+module _ {A : Type 0} (z : A) where
+  overwrite-next : (xs ys : List A) (i : ℕ) → i < length xs → i < length ys → set (take i xs ++ drop i ys) i (getD xs i z) ≡ take (suc i) xs ++ drop (suc i) ys
+  overwrite-next [] ys i h k = absurd (not-suc-le-zero h)
+  overwrite-next (x ∷ xs) [] i h k = absurd (not-suc-le-zero k)
+  overwrite-next (x ∷ xs) (y ∷ ys) zero h k = refl
+  overwrite-next (x ∷ xs) (y ∷ ys) (suc i) h k = ap (λ l. x ∷ l) (overwrite-next xs ys i (omega arith) (omega arith))
+
+  -- one element more
+  pub overwrite-more : (xs ys zs : List A) (i : ℕ) (x : A) → i < length xs → i < length ys → zs ≡ take i xs ++ drop i ys → x ≡ getD xs i z
+      → set zs i x ≡ take (i + 1) xs ++ drop (i + 1) ys
+  overwrite-more xs ys zs i x h k e v = rw (e, v, add-one i) (overwrite-next xs ys i h k)
+
+  -- all of them
+  pub overwrite-all : (xs ys : List A) (i : ℕ) → length xs ≤ i → length ys ≤ i → take i xs ++ drop i ys ≡ xs
+  overwrite-all xs ys i h k = rw (take-all i xs h, drop-of-length-le ys k) (append-nil xs)
