@@ -7,7 +7,7 @@ use native.Mathlib.Omega.{arith}
 use lib.ListN.{length, getD, take, length-take}
 use lib.Seq.{getD-take, take-take}
 use Rattle.lists.specs.Sums.{total}
-use Rattle.lists.proofs.Totals.{total-more, total-take}
+use Rattle.lists.proofs.Sums.{total-take-drop, total-take-suc}
 use Rattle.arbiter.specs.declared.table.Requestor.{Requestor}
 use Rattle.arbiter.specs.declared.table.Table.{Table}
 use Rattle.arbiter.specs.Limits.{maxDenominator}
@@ -34,12 +34,12 @@ above limit t p long ok h =
     let row = getD-take (t .count) (t .requestors) p noRequestor h in
     let cut = take-take p (t .count) (t .requestors) (omega arith) in
     let least : 1 ≤ getD (t .requestors) p noRequestor .rate = rw row at (f .row p inside .rate-least) in
-    let sum = rw (cut, row) at (total-more rate noRequestor (places t) p inside) in
+    let sum = rw (cut, row) at (total-take-suc rate noRequestor refl p (places t)) in
     record {
       place = omega (arith, f .count-most);
       denominator-most = f .denominator-most;
       own-rate = least;
-      rates = omega (arith, sum, total-take rate noRequestor (places t) (suc p), f .rate-sum);
+      rates = omega (arith, sum, total-take-drop rate (suc p) (places t), f .rate-sum);
       same-rates = ap (total rate) cut;
       same-bursts = ap (total burst) cut;
       same-row = row }

@@ -1,3 +1,4 @@
 pub mod Checks
 pub mod Places
 pub mod Above
+pub mod Sound

@@ -1,3 +1,4 @@
 pub mod Tests
-pub mod Totals
+pub mod Sums
+pub mod Runs
 pub mod Overwriting

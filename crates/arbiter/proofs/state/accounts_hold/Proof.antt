@@ -14,7 +14,7 @@ use lib.Seq.{getD-take}
 use borrow.Author.Tests.{le-leb, lt-leb}
 use Rattle.lists.specs.Sums.{total, every, upTo}
 use Rattle.lists.proofs.Tests.{true-and, and-false, every-more, every-fails, up-to-fails}
-use Rattle.lists.proofs.Totals.{total-more}
+use Rattle.lists.proofs.Sums.{total-take-suc}
 use Rattle.arbiter.specs.Limits.{maxPlaces}
 use Rattle.arbiter.specs.Table.{burst, noRequestor}
 use Rattle.arbiter.specs.State.{credit, noAccount, backlogFits, creditsHold}
@@ -38,13 +38,13 @@ unfolding total every upTo
 held-none n rs accounts = record { below = omega arith; credits-are = refl; bursts-are = refl; credits-fit = omega arith; bursts-fit = omega arith; backlogs = refl; sums = refl }
 
 held-more : (n : ℕ) (rs : List Requestor) (accounts : List Account) (credits bursts p c b : ℕ)
-    → p < n → p < length rs → p < length accounts → c ≡ getD accounts p noAccount .credit → b ≡ getD rs p noRequestor .burst → c ≤ 4294967295 → b ≤ 4294967295
+    → p < n → c ≡ getD accounts p noAccount .credit → b ≡ getD rs p noRequestor .burst → c ≤ 4294967295 → b ≤ 4294967295
     → backlogFits (getD accounts p noAccount) ≡ true → credits + c ≤ bursts + b
     → Held n rs accounts credits bursts p → Held n rs accounts (credits + c) (bursts + b) (p + 1)
 unfolding upTo
-held-more n rs accounts credits bursts p c b h k l ec eb fc fb q s v =
-    let cs : credits + c ≡ total credit (take (suc p) accounts) = omega (arith, total-more credit noAccount accounts p l, v .credits-are) in
-    let bs : bursts + b ≡ total burst (take (suc p) rs) = omega (arith, total-more burst noRequestor rs p k, v .bursts-are) in
+held-more n rs accounts credits bursts p c b h ec eb fc fb q s v =
+    let cs : credits + c ≡ total credit (take (suc p) accounts) = omega (arith, total-take-suc credit noAccount refl p accounts, v .credits-are) in
+    let bs : bursts + b ≡ total burst (take (suc p) rs) = omega (arith, total-take-suc burst noRequestor refl p rs, v .bursts-are) in
     rw (add-one p)
     (record {
       below = h; credits-are = cs; bursts-are = bs;
@@ -58,10 +58,7 @@ Inv-loop s t n credits₀ bursts₀ p₀ credits bursts p = Held n (t .requestor
 abbrev μ-loop : tie.MeasureT-loop
 μ-loop s t n credits₀ bursts₀ p₀ credits bursts p = n - p
 
--- the arrays' lengths
-rows : (c : tie.Start Inv-loop μ-loop) → length (c .args .t1 .table .requestors) ≡ maxPlaces
-rows c = sym (length-map (c .args .t1 .table .requestors) _) ∙ c .good .0 .1 .1 .0 .1 .1 .1 .1 .0 .1 .0 .1
-
+-- the array's length
 long : (c : tie.Start Inv-loop μ-loop) → length (c .args .t1 .accounts) ≡ maxPlaces
 long c = sym (length-map (c .args .t1 .accounts) _) ∙ c .good .0 .1 .1 .1 .1 .0 .1 .0 .1
 
@@ -122,8 +119,8 @@ returns-2 c =
     let rs = a .args .t1 .table .requestors in
     let accounts = a .args .t1 .accounts in
     let n = a .args .t1 .table .count in
-    let credits = total-more credit noAccount accounts (l .p) (omega (arith, long a)) in
-    let bursts = total-more burst noRequestor rs (l .p) (omega (arith, rows a)) in
+    let credits = total-take-suc credit noAccount refl (l .p) accounts in
+    let bursts = total-take-suc burst noRequestor refl (l .p) rs in
     let over = lt-leb (total credit (take (suc (l .p)) accounts)) (total burst (take (suc (l .p)) rs)) (omega (arith, c .if2 .taken)) in
     sym (and-false (every backlogFits (take n accounts)) (upTo n (creditsHold rs accounts)) (up-to-fails (creditsHold rs accounts) n (suc (l .p)) (omega arith) (omega arith) over))
 
@@ -144,7 +141,7 @@ loop-again c =
     let accounts = a .args .t1 .accounts in
     let n = a .args .t1 .table .count in
     held-more n rs accounts (l .credits) (l .bursts) (l .p) (getD accounts (l .p) noAccount .credit) (getD rs (l .p) noRequestor .burst)
-      (omega arith) (omega (arith, rows a)) (omega (arith, long a)) refl refl (omega (arith, c .before .before .struct-known2 .given)) (omega (arith, c .before .struct-known3 .given))
+      (omega arith) refl refl (omega (arith, c .before .before .struct-known2 .given)) (omega (arith, c .before .struct-known3 .given))
       (le-leb _ _ (c .before .before .before .if1 .left)) (c .if2 .left) (l .inv)
 
 -- src/state.rt:64:1

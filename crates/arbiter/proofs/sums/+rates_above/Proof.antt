@@ -1,6 +1,6 @@
 use Rattle.arbiter.specs.Table.{rate, noRequestor}
 use Rattle.arbiter.specs.Limits.{maxPlaces}
-use Rattle.lists.proofs.Totals.{total-fewer}
+use Rattle.lists.proofs.Sums.{total-take-pred}
 use Rattle.lists.specs.Sums.{total}
 use lib.ListN.{length, length-map, take, drop}
 use borrow.Author.Needs.{needs}
@@ -89,8 +89,7 @@ rates-above-returns-2 : (t : ℕ) → rates-above-lts.Need-returns-2 (
 rates-above-returns-2 t c =
     let a = c .before .before .before .before in
     let rs = a .args .t1 .requestors in
-    let long : length rs ≡ maxPlaces = sym (length-map rs _) ∙ a .good .0 .1 .1 .1 .1 .0 .1 .0 .1 in
-    let e = total-fewer rate noRequestor rs (a .args .p) (omega arith) (omega arith) in
+    let e = total-take-pred rate noRequestor refl (a .args .p) rs (omega arith) in
     (omega arith, omega arith)
 
 pub +rates-above-spec : {M : Type 1} → statement M

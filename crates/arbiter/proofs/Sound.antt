@@ -1,0 +1,143 @@
+-- What test 23 says of a state whose arrays have `limit` elements, and the other way round; how large a credit can be; and an
+-- accepted start's state passes. Assumes nothing.
+use mathlib.Core.Path.{_≡_, refl, ap, sym, _∙_}
+use mathlib.Core.Bool.{Bool, true, false, _&&_}
+use mathlib.Core.List.{List, [], _∷_, map}
+use Prim.Native.Nat.{ℕ, zero, suc, _+_, _*_, _≤_, _<_, min}
+use native.Mathlib.Nat.{mul-le-mul-right}
+use native.Mathlib.Decide.{decLe}
+use native.Mathlib.Omega.{arith}
+use borrow.Author.Tests.{leb-true, le-leb, eqb-true, eq-eqb}
+use lib.Dec.{leb, eqb}
+use lib.ListN.{length, getD, take, drop, length-take, length-map, List·getD-map}
+use lib.Seq.{getD-take, length-take-le}
+use Rattle.lists.specs.Sums.{total, every, upTo}
+use Rattle.lists.proofs.Tests.{true-false, and-true, true-and, every-at, at-every, up-to-at, at-up-to}
+use Rattle.lists.proofs.Sums.{total-take-drop, total-take-rises, total-take-map, total-most, at-most-total}
+use Rattle.arbiter.specs.declared.table.Requestor.{Requestor}
+use Rattle.arbiter.specs.declared.table.Table.{Table}
+use Rattle.arbiter.specs.declared.state.Account.{Account}
+use Rattle.arbiter.specs.declared.state.Arbiter.{Arbiter}
+use Rattle.arbiter.specs.Limits.{maxBurst, maxBacklog, maxSlot}
+use Rattle.arbiter.specs.Refusals.{Verdict, faultless, fault}
+use Rattle.arbiter.specs.Table.{burst, noRequestor, requestorClear, places, tableVerdict}
+use Rattle.arbiter.specs.State.{credit, backlog, noAccount, accountClear, backlogFits, requestorAt, accountAt, creditsHold, isFaultless, accountsSound, sound}
+use Rattle.arbiter.specs.Start.{fresh, opening, startVerdict}
+use Rattle.arbiter.proofs.Checks.{gate-open, then-open, Row, Fair, fair, admitted}
+
+-- the state breaks no rule, and its arrays have `limit` elements each
+pub record Sound (limit : ℕ) (s : Arbiter) : Type 0 where
+  pub rows : length (s .table .requestors) ≡ limit
+  pub accounts : length (s .accounts) ≡ limit
+  pub passes : tableVerdict limit (s .table) ≡ faultless
+  pub slot-most : s .slot .0 ≤ maxSlot
+  pub backlog-most : (p : ℕ) → p < s .table .count → backlog (accountAt p (s .accounts)) ≤ maxBacklog
+  pub sums : (k : ℕ) → total credit (take k (s .accounts)) ≤ total burst (take k (s .table .requestors))
+  pub clear : every accountClear (drop (s .table .count) (s .accounts)) ≡ true
+
+is-faultless-true : (v : Verdict) → isFaultless v ≡ true → v ≡ faultless
+is-faultless-true faultless e = refl
+is-faultless-true (fault r) e = true-false (sym e)
+
+clear-credits : (accounts : List Account) → every accountClear accounts ≡ true → total credit accounts ≡ 0
+clear-credits accounts e = omega (arith, total-most credit noAccount 0 accounts (λ p h. omega (arith, at p h)))
+  where
+    at : (p : ℕ) → p < length accounts → credit (accountAt p accounts) ≡ 0
+    at p h = eqb-true _ _ (and-true _ _ (every-at accountClear noAccount accounts e p h) .0)
+
+module _ (n : ℕ) (accounts : List Account) where
+  backlogs-open : n ≤ length accounts → every backlogFits (take n accounts) ≡ true → (p : ℕ) → p < n → backlog (accountAt p accounts) ≤ maxBacklog
+  backlogs-open long e p h =
+      let inside : p < length (take n accounts) = omega (arith, length-take n accounts) in
+      rw (getD-take n accounts p noAccount h) at (leb-true (backlog (accountAt p (take n accounts))) maxBacklog (every-at backlogFits noAccount (take n accounts) e p inside))
+
+  backlogs-shut : ((p : ℕ) → p < n → backlog (accountAt p accounts) ≤ maxBacklog) → every backlogFits (take n accounts) ≡ true
+  backlogs-shut h = at-every backlogFits noAccount (take n accounts) (λ p l.
+      let inside : p < n = omega (arith, length-take n accounts) in
+      rw (getD-take n accounts p noAccount inside) (le-leb _ _ (h p inside)))
+
+module _ (n : ℕ) (rs : List Requestor) (accounts : List Account) where
+  sums-open : upTo n (creditsHold rs accounts) ≡ true → (k : ℕ) → k ≤ n → total credit (take k accounts) ≤ total burst (take k rs)
+  unfolding total
+  sums-open e zero h = omega arith
+  sums-open e (suc k) h = leb-true _ _ (up-to-at (creditsHold rs accounts) n e (suc k) (omega arith) h)
+
+  sums-shut : ((k : ℕ) → total credit (take k accounts) ≤ total burst (take k rs)) → upTo n (creditsHold rs accounts) ≡ true
+  sums-shut h = at-up-to (creditsHold rs accounts) n (λ k l m. le-leb _ _ (h k))
+
+  -- past place N−1 no credit is added, so the sums of the first N places and of fewer bound them all
+  module _ (clear : every accountClear (drop n accounts) ≡ true) where
+    pub credits-first : total credit accounts ≡ total credit (take n accounts)
+    credits-first = omega (arith, total-take-drop credit n accounts, clear-credits (drop n accounts) clear)
+
+    pub sums-past : ((k : ℕ) → k ≤ n → total credit (take k accounts) ≤ total burst (take k rs))
+        → (k : ℕ) → total credit (take k accounts) ≤ total burst (take k rs)
+    sums-past within k = elim (decLe k n)
+        [ yes h ↦ within k h
+        | no h ↦ omega (arith, within n (omega arith), credits-first, total-take-drop credit k accounts, total-take-rises burst n k rs (omega arith)) ]
+
+-- a fair table of `limit` rows has N places, each with a row within its limits
+module _ (limit : ℕ) (t : Table) (rows : length (t .requestors) ≡ limit) (f : Fair limit t) where
+  pub places-length : length (places t) ≡ t .count
+  places-length = length-take-le (t .count) (t .requestors) (omega (arith, f .count-most))
+
+  pub row-at : (p : ℕ) → p < t .count → Row (t .denominator) (requestorAt p (places t))
+  row-at p h = f .row p (omega (arith, places-length))
+
+module _ (limit : ℕ) (s : Arbiter) where
+  pub sound-open : length (s .table .requestors) ≡ limit → length (s .accounts) ≡ limit → sound limit s ≡ true → Sound limit s
+  unfolding sound accountsSound
+  sound-open rows accounts e =
+      let a = and-true (isFaultless (tableVerdict limit (s .table))) _ e in
+      let b = and-true (leb (s .slot .0) maxSlot) _ (a .1) in
+      let c = and-true (every backlogFits (take (s .table .count) (s .accounts))) _ (b .1) in
+      let f = and-true (upTo (s .table .count) (creditsHold (s .table .requestors) (s .accounts))) _ (c .1) in
+      let passes = is-faultless-true _ (a .0) in
+      record {
+        rows = rows; accounts = accounts; passes = passes; slot-most = leb-true _ _ (b .0);
+        backlog-most = backlogs-open _ _ (omega (arith, fair limit (s .table) passes .count-most)) (c .0);
+        sums = sums-past _ _ _ (f .1) (sums-open _ _ _ (f .0));
+        clear = f .1 }
+
+  pub sound-shut : Sound limit s → sound limit s ≡ true
+  unfolding sound accountsSound
+  sound-shut v =
+      true-and _ _ (ap isFaultless (v .passes))
+      (true-and _ _ (le-leb _ _ (v .slot-most))
+      (true-and _ _ (backlogs-shut _ _ (v .backlog-most))
+      (true-and _ _ (sums-shut _ _ _ (v .sums)) (v .clear))))
+
+  module _ (v : Sound limit s) where
+    pub sound-fair : Fair limit (s .table)
+    sound-fair = fair limit (s .table) (v .passes)
+
+    -- a blocked place's credit may pass its burst, and never `limit` times the largest one
+    pub credit-most : (p : ℕ) → credit (accountAt p (s .accounts)) ≤ limit * maxBurst
+    credit-most p = omega (arith,
+        at-most-total credit noAccount refl p (s .accounts),
+        credits-first (s .table .count) (s .table .requestors) (s .accounts) (v .clear), v .sums (s .table .count),
+        total-most burst noRequestor maxBurst (places (s .table)) (λ q h. sound-fair .row q h .burst-most),
+        places-length limit (s .table) (v .rows) sound-fair, mul-le-mul-right maxBurst (sound-fair .count-most))
+
+-- the first account of each place: its credit is the burst, and it is clear where the row is
+fresh-clear : (n : ℕ) (rs : List Requestor) → every requestorClear (drop n rs) ≡ true → every accountClear (drop n (map fresh rs)) ≡ true
+unfolding every
+fresh-clear zero [] e = refl
+fresh-clear (suc n) [] e = refl
+fresh-clear zero (r ∷ rs) e =
+    let a = and-true (requestorClear r) (every requestorClear rs) e in
+    let b = and-true (eqb (r .rate) 0) _ (a .0) in
+    true-and _ _ (true-and _ _ (and-true (eqb (r .burst) 0) _ (b .1) .0) (eq-eqb 0 0 refl)) (fresh-clear zero rs (a .1))
+fresh-clear (suc n) (r ∷ rs) e = fresh-clear n rs e
+
+pub opening-sound : (limit : ℕ) (t : Table) (first : ℕ) → length (t .requestors) ≡ limit → startVerdict limit t first ≡ faultless → Sound limit (opening t first)
+unfolding opening startVerdict
+opening-sound limit t first rows e =
+    let a = then-open _ _ e in
+    let passes = admitted limit t (a .0) .passes in
+    record {
+      rows = rows; accounts = length-map (t .requestors) fresh ∙ rows; passes = passes;
+      slot-most = leb-true _ _ (gate-open _ _ _ (a .1) .0);
+      backlog-most = λ p h. omega (arith, ap backlog (List·getD-map fresh (t .requestors) p noRequestor));
+      sums = λ k. omega (arith, total-take-map credit fresh k (t .requestors));
+      clear = fresh-clear (t .count) (t .requestors) (fair limit t passes .clear) }

@@ -1,0 +1,49 @@
+-- Laws on lists of calls over any state: what every call keeps, two steps that agree, and counts along the calls.
+-- Assumes nothing.
+use mathlib.Core.Path.{_≡_, refl, ap, ap₂, _∙_}
+use mathlib.Core.List.{List, [], _∷_}
+use Prim.Native.Nat.{ℕ, _+_}
+use native.Mathlib.Omega.{arith}
+use native.Mathlib.Nat.{zero-add}
+use Rattle.lists.specs.Sums.{total}
+use Rattle.lists.specs.Runs.{Result, end, answers, Each}
+
+shift : (a b t : ℕ) → a + b + t ≡ b + (a + t)
+shift a b t = omega arith
+
+module _ {S C A : Type 0} (step : S → C → Result S A) where
+  -- what each call keeps stands at the end
+  pub keeps : (P : S → Type 0) → ((s : S) (c : C) → P s → P (step s c .state)) → (s : S) (calls : List C) → P s → P (end step s calls)
+  unfolding end
+  keeps P kept s [] p = p
+  keeps P kept s (c ∷ calls) p = keeps P kept (step s c .state) calls (kept s c p)
+
+  -- a condition that always holds, holds along the calls
+  pub each : (s : S) (calls : List C) → Each step (λ s a. Unit {0}) s calls
+  each s [] = tt
+  each s (c ∷ calls) = (tt, each (step s c .state) calls)
+
+  -- Two counts of the answers and the state, kept in step. Q is what the calls meet on their way.
+  pub along : (Q : S → A → Type 0) (f g : A → ℕ) (P : ℕ → ℕ → S → Type 0)
+      → ((t u : ℕ) (s : S) (c : C) → Q s (step s c .answer) → P t u s → P (f (step s c .answer) + t) (g (step s c .answer) + u) (step s c .state))
+      → (t u : ℕ) (s : S) (calls : List C) → Each step Q s calls → P t u s
+      → P (total f (answers step s calls) + t) (total g (answers step s calls) + u) (end step s calls)
+  unfolding end answers total
+  along Q f g P kept t u s [] q p = rw (zero-add t, zero-add u) p
+  along Q f g P kept t u s (c ∷ calls) q p =
+      rw (shift (f (step s c .answer)) (total f (answers step (step s c .state) calls)) t,
+          shift (g (step s c .answer)) (total g (answers step (step s c .state) calls)) u)
+      (along Q f g P kept (f (step s c .answer) + t) (g (step s c .answer) + u) (step s c .state) calls (q .1) (kept t u s c (q .0) p))
+
+-- two steps that agree where P holds, which the second keeps
+module _ {S C A : Type 0} (one other : S → C → Result S A) (P : S → Type 0)
+    (agree : (s : S) (c : C) → P s → one s c ≡ other s c) (kept : (s : S) (c : C) → P s → P (other s c .state)) where
+  pub same-end : (s : S) (calls : List C) → P s → end one s calls ≡ end other s calls
+  unfolding end
+  same-end s [] p = refl
+  same-end s (c ∷ calls) p = rw (agree s c p) (same-end (other s c .state) calls (kept s c p))
+
+  pub same-answers : (s : S) (calls : List C) → P s → answers one s calls ≡ answers other s calls
+  unfolding answers
+  same-answers s [] p = refl
+  same-answers s (c ∷ calls) p = rw (agree s c p) (ap (λ heard. other s c .answer ∷ heard) (same-answers (other s c .state) calls (kept s c p)))
