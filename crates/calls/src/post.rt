@@ -1,6 +1,13 @@
 // A post adds a count to one place's backlog.
+use arbiter::units::Transfers;
 use arbiter::refusals::Cause;
+use arbiter::refusals::InputRefusal;
+use arbiter::refusals::StateRefusal;
+use arbiter::state::Account;
 use arbiter::state::Arbiter;
+ghost use mathlib.Core.Path.{_≡_};
+ghost use Rattle.arbiter.specs.Limits.{maxPlaces};
+ghost use Rattle.calls.specs.Calls.{post, called, postedOf};
 
 pub enum PostAnswer {
     Accepted,
@@ -10,4 +17,27 @@ pub enum PostAnswer {
 pub struct Posted {
     pub state: Arbiter,
     pub answer: PostAnswer,
+}
+
+// Refused: 23, 11, 21.
+pub fn post(s: Arbiter, place: usize, count: Transfers) -> Posted
+    ensures { λ r. ⌜ postedOf r ≡ called maxPlaces s (post place (count .0)) ⌝ }
+{
+    if !s.is_sound() {
+        return Posted { state: s, answer: PostAnswer::Refused(Cause::State(StateRefusal::Unsound)) };
+    }
+    let t = s.table;
+    let n = t.count;
+    if n <= place {
+        return Posted { state: s, answer: PostAnswer::Refused(Cause::Input(InputRefusal::NoSuchPlace)) };
+    }
+    let a = s.accounts[place];
+    let q = a.backlog;
+    // what is free, since the sum of any count and the backlog may not fit
+    if Arbiter::MAX_BACKLOG - q.0 < count.0 {
+        return Posted { state: s, answer: PostAnswer::Refused(Cause::State(StateRefusal::BacklogLimit)) };
+    }
+    let mut next = s;
+    next.accounts[place] = Account { credit: a.credit, backlog: Transfers(q.0 + count.0) };
+    Posted { state: next, answer: PostAnswer::Accepted }
 }

@@ -1,0 +1,4 @@
+pub mod Accounts
+pub mod Search
+pub mod Updates
+pub mod Room

@@ -1,0 +1,78 @@
+-- The search of a slot, place by place, is `first` of the rule; and the place that it grants is eligible. Assumes nothing.
+use mathlib.Core.Path.{_≡_, refl, ap, sym, _∙_}
+use mathlib.Core.Bool.{Bool, true, false}
+use mathlib.Core.List.{List, [], _∷_}
+use mathlib.Core.Logic.{_≢_}
+use Prim.Native.Nat.{ℕ, zero, suc, _+_, _≤_, _<_}
+use native.Mathlib.Nat.{not-suc-le-zero}
+use native.Mathlib.Omega.{arith}
+use borrow.Author.Tests.{eqb-true, eqb-false}
+use lib.Dec.{eqb}
+use lib.ListN.{length, getD, take}
+use lib.Seq.{getD-take}
+use Rattle.lists.specs.Choices.{pick, cases}
+use Rattle.lists.proofs.Tests.{true-false}
+use Rattle.arbiter.specs.declared.table.Requestor.{Requestor}
+use Rattle.arbiter.specs.declared.state.Account.{Account}
+use Rattle.arbiter.specs.State.{noAccount, requestorAt, accountAt}
+use Rattle.arbiter.specs.Table.{noRequestor}
+use Rattle.calls.specs.declared.slot.Grant.{Grant}
+use Rattle.calls.specs.declared.slot.Grant.the-variants.{Nobody, Place}
+use Rattle.calls.specs.Rule.{eligible, first, later}
+use Rattle.calls.specs.Places.{names}
+
+-- past the accounts nobody is eligible
+eligible-none : (d : ℕ) (r : Requestor) → eligible d r noAccount ≡ true → ⊥
+unfolding eligible
+eligible-none d r e = true-false (sym e)
+
+-- no place before p is eligible
+abbrev pub NoneBefore : ℕ → List Requestor → List Account → ℕ → Type 0
+NoneBefore d rs accounts p = (i : ℕ) → i < p → eligible d (requestorAt i rs) (accountAt i accounts) ≡ false
+
+module _ (d : ℕ) where
+  pub none-more : (rs : List Requestor) (accounts : List Account) (p : ℕ) → NoneBefore d rs accounts p
+      → eligible d (requestorAt p rs) (accountAt p accounts) ≡ false → NoneBefore d rs accounts (p + 1)
+  none-more rs accounts p h e i l = cases (eqb i p)
+      (λ q. ap (λ (k : ℕ). eligible d (requestorAt k rs) (accountAt k accounts)) (eqb-true i p q) ∙ e)
+      (λ q. let other : i ≢ p = eqb-false i p q in h i (omega arith))
+
+  pub first-at : (n p : ℕ) (rs : List Requestor) (accounts : List Account) → p < n → n ≤ length rs → NoneBefore d rs accounts p
+      → eligible d (requestorAt p rs) (accountAt p accounts) ≡ true → first d (take n rs) accounts ≡ Place p
+  unfolding first later
+  first-at zero p rs accounts l k h e = absurd (not-suc-le-zero l)
+  first-at (suc n) p [] accounts l k h e = absurd (not-suc-le-zero k)
+  first-at (suc n) p (r ∷ rs) [] l k h e = absurd (eligible-none d (requestorAt p (r ∷ rs)) e)
+  first-at (suc n) zero (r ∷ rs) (a ∷ accounts) l k h e = rw e
+  first-at (suc n) (suc p) (r ∷ rs) (a ∷ accounts) l k h e =
+      rw (h 0 (omega arith), first-at n p rs accounts (omega arith) (omega arith) (λ i j. h (suc i) (omega arith)) e)
+
+  pub first-none : (n : ℕ) (rs : List Requestor) (accounts : List Account) → NoneBefore d rs accounts n → first d (take n rs) accounts ≡ Nobody
+  unfolding first later
+  first-none zero rs accounts h = refl
+  first-none (suc n) [] accounts h = refl
+  first-none (suc n) (r ∷ rs) [] h = refl
+  first-none (suc n) (r ∷ rs) (a ∷ accounts) h = rw (h 0 (omega arith), first-none n rs accounts (λ i j. h (suc i) (omega arith)))
+
+  first-eligible : (p : ℕ) (rs : List Requestor) (accounts : List Account) → first d rs accounts ≡ Place p → eligible d (requestorAt p rs) (accountAt p accounts) ≡ true
+  unfolding first later
+  first-eligible p [] accounts e = let z : _≡_ {A = ℕ} 0 1 = cc in absurd (omega arith)
+  first-eligible p (r ∷ rs) [] e = let z : _≡_ {A = ℕ} 0 1 = cc in absurd (omega arith)
+  first-eligible p (r ∷ rs) (a ∷ accounts) e = cases (eligible d r a)
+      (λ q. here q (rw q at e))
+      (λ q. further p (first d rs accounts) (λ i f. first-eligible i rs accounts f) refl (rw q at e))
+    where
+      here : eligible d r a ≡ true → Place 0 ≡ Place p → eligible d (requestorAt p (r ∷ rs)) (accountAt p (a ∷ accounts)) ≡ true
+      here q f = let z : 0 ≡ p = cc in rw (← z) q
+      further : (p : ℕ) (g : Grant) → ((i : ℕ) → first d rs accounts ≡ Place i → eligible d (requestorAt i rs) (accountAt i accounts) ≡ true)
+          → first d rs accounts ≡ g → later g ≡ Place p → eligible d (requestorAt p (r ∷ rs)) (accountAt p (a ∷ accounts)) ≡ true
+      further p Nobody rest f e = let z : _≡_ {A = ℕ} 0 1 = cc in absurd (omega arith)
+      further p (Place i) rest f e = let z : suc i ≡ p = cc in rw (← z) (rest i f)
+
+  -- the place that a grant names is eligible
+  pub named-eligible : (n p : ℕ) (rs : List Requestor) (accounts : List Account) (g : Grant) → p < n → g ≡ first d (take n rs) accounts → names g p ≡ true
+      → eligible d (requestorAt p rs) (accountAt p accounts) ≡ true
+  named-eligible n p rs accounts Nobody h e q = true-false (sym q)
+  named-eligible n p rs accounts (Place i) h e q =
+      let same : i ≡ p = eqb-true i p q in
+      rw (getD-take n rs p noRequestor h) at (first-eligible p (take n rs) accounts (sym e ∙ ap Place same))

@@ -1,0 +1,21 @@
+use Rattle.calls.proofs.Accounts.{eligible-idle, eligible-waiting}
+use borrow.Author.Needs.{needs}
+use Rattle.calls.proofs.slot.is_eligible.Statement.{statement}
+use Rattle.calls.proofs.slot.is_eligible.Tie as tie
+use Rattle.calls.proofs.slot.is_eligible.Reads as reads
+use Rattle.calls.proofs.slot.is_eligible.Lts as lts
+
+-- src/slot.rt:41:9
+returns : tie.Need-returns
+returns c = let a = (c .before .before .before) .args in eligible-idle (a .r) (a .a) (a .d) (c .if1 .taken)
+
+-- src/slot.rt:43:10
+add-result : tie.Need-add-result
+add-result c = search needs
+
+-- src/slot.rt:35:1
+returns-2 : tie.Need-returns-2
+returns-2 c = let a = (c .before .before .before .before .before) .args in eligible-waiting (a .r) (a .a) (a .d) (c .before .before .if1 .left)
+
+pub is-eligible-spec : {M : Type 1} → statement M
+is-eligible-spec = tie.close (tie.spec returns add-result returns-2)
