@@ -1,15 +1,15 @@
--- What test 23 says of a state whose arrays have `limit` elements, and the other way round; how large a credit can be; and an
--- accepted start's state passes. Assumes nothing.
+-- What test 23 says of a state whose arrays have `limit` elements each, and the other way round; how large a credit can be; and
+-- an accepted start's state passes. Assumes nothing.
 use mathlib.Core.Path.{_≡_, refl, ap, sym, _∙_}
-use mathlib.Core.Bool.{Bool, true, false, _&&_}
+use mathlib.Core.Bool.{true}
 use mathlib.Core.List.{List, [], _∷_, map}
-use Prim.Native.Nat.{ℕ, zero, suc, _+_, _*_, _≤_, _<_, min}
+use Prim.Native.Nat.{ℕ, zero, suc, _*_, _≤_, _<_}
 use native.Mathlib.Nat.{mul-le-mul-right}
 use native.Mathlib.Decide.{decLe}
 use native.Mathlib.Omega.{arith}
 use borrow.Author.Tests.{leb-true, le-leb, eqb-true, eq-eqb}
 use lib.Dec.{leb, eqb}
-use lib.ListN.{length, getD, take, drop, length-take, length-map, List·getD-map}
+use lib.ListN.{length, take, drop, length-take, length-map, List·getD-map}
 use lib.Seq.{getD-take, length-take-le}
 use Rattle.lists.specs.Sums.{total, every, upTo}
 use Rattle.lists.proofs.Tests.{true-false, and-true, true-and, every-at, at-every, up-to-at, at-up-to}
@@ -20,10 +20,10 @@ use Rattle.arbiter.specs.declared.state.Account.{Account}
 use Rattle.arbiter.specs.declared.state.Arbiter.{Arbiter}
 use Rattle.arbiter.specs.Limits.{maxBurst, maxBacklog, maxSlot}
 use Rattle.arbiter.specs.Refusals.{Verdict, faultless, fault}
-use Rattle.arbiter.specs.Table.{burst, noRequestor, requestorClear, places, tableVerdict}
+use Rattle.arbiter.specs.Table.{rate, burst, noRequestor, requestorClear, places, tableVerdict}
 use Rattle.arbiter.specs.State.{credit, backlog, noAccount, accountClear, backlogFits, requestorAt, accountAt, creditsHold, isFaultless, accountsSound, sound}
 use Rattle.arbiter.specs.Start.{fresh, opening, startVerdict}
-use Rattle.arbiter.proofs.Checks.{gate-open, then-open, Row, Fair, fair, admitted}
+use Rattle.arbiter.proofs.Checks.{gate-open, then-open, Row, Fair, fair, Admitted, admitted}
 
 -- the state breaks no rule, and its arrays have `limit` elements each
 pub record Sound (limit : ℕ) (s : Arbiter) : Type 0 where
@@ -49,12 +49,17 @@ module _ (n : ℕ) (accounts : List Account) where
   backlogs-open : n ≤ length accounts → every backlogFits (take n accounts) ≡ true → (p : ℕ) → p < n → backlog (accountAt p accounts) ≤ maxBacklog
   backlogs-open long e p h =
       let inside : p < length (take n accounts) = omega (arith, length-take n accounts) in
-      rw (getD-take n accounts p noAccount h) at (leb-true (backlog (accountAt p (take n accounts))) maxBacklog (every-at backlogFits noAccount (take n accounts) e p inside))
+      let fits = every-at backlogFits noAccount (take n accounts) e p inside in
+      rw (getD-take n accounts p noAccount h) at (leb-true (backlog (accountAt p (take n accounts))) maxBacklog fits)
 
   backlogs-shut : ((p : ℕ) → p < n → backlog (accountAt p accounts) ≤ maxBacklog) → every backlogFits (take n accounts) ≡ true
   backlogs-shut h = at-every backlogFits noAccount (take n accounts) (λ p l.
       let inside : p < n = omega (arith, length-take n accounts) in
       rw (getD-take n accounts p noAccount inside) (le-leb _ _ (h p inside)))
+
+  -- past place N−1 no credit is added
+  credits-first : every accountClear (drop n accounts) ≡ true → total credit accounts ≡ total credit (take n accounts)
+  credits-first clear = omega (arith, total-take-drop credit n accounts, clear-credits (drop n accounts) clear)
 
 module _ (n : ℕ) (rs : List Requestor) (accounts : List Account) where
   sums-open : upTo n (creditsHold rs accounts) ≡ true → (k : ℕ) → k ≤ n → total credit (take k accounts) ≤ total burst (take k rs)
@@ -65,16 +70,16 @@ module _ (n : ℕ) (rs : List Requestor) (accounts : List Account) where
   sums-shut : ((k : ℕ) → total credit (take k accounts) ≤ total burst (take k rs)) → upTo n (creditsHold rs accounts) ≡ true
   sums-shut h = at-up-to (creditsHold rs accounts) n (λ k l m. le-leb _ _ (h k))
 
-  -- past place N−1 no credit is added, so the sums of the first N places and of fewer bound them all
-  module _ (clear : every accountClear (drop n accounts) ≡ true) where
-    pub credits-first : total credit accounts ≡ total credit (take n accounts)
-    credits-first = omega (arith, total-take-drop credit n accounts, clear-credits (drop n accounts) clear)
+  -- so the sums of the first N places and of fewer bound them all
+  pub sums-past : every accountClear (drop n accounts) ≡ true → ((k : ℕ) → k ≤ n → total credit (take k accounts) ≤ total burst (take k rs))
+      → (k : ℕ) → total credit (take k accounts) ≤ total burst (take k rs)
+  sums-past clear within k = elim (decLe k n)
+      [ yes h ↦ within k h
+      | no h ↦ omega (arith, within n (omega arith), credits-first n accounts clear, total-take-drop credit k accounts, total-take-rises burst n k rs (omega arith)) ]
 
-    pub sums-past : ((k : ℕ) → k ≤ n → total credit (take k accounts) ≤ total burst (take k rs))
-        → (k : ℕ) → total credit (take k accounts) ≤ total burst (take k rs)
-    sums-past within k = elim (decLe k n)
-        [ yes h ↦ within k h
-        | no h ↦ omega (arith, within n (omega arith), credits-first, total-take-drop credit k accounts, total-take-rises burst n k rs (omega arith)) ]
+-- the rates of any first k places
+pub rates-most : (limit : ℕ) (t : Table) → Fair limit t → (k : ℕ) → total rate (take k (places t)) ≤ t .denominator
+rates-most limit t f k = omega (arith, total-take-drop rate k (places t), f .rate-sum)
 
 -- a fair table of `limit` rows has N places, each with a row within its limits
 module _ (limit : ℕ) (t : Table) (rows : length (t .requestors) ≡ limit) (f : Fair limit t) where
@@ -115,7 +120,7 @@ module _ (limit : ℕ) (s : Arbiter) where
     pub credit-most : (p : ℕ) → credit (accountAt p (s .accounts)) ≤ limit * maxBurst
     credit-most p = omega (arith,
         at-most-total credit noAccount refl p (s .accounts),
-        credits-first (s .table .count) (s .table .requestors) (s .accounts) (v .clear), v .sums (s .table .count),
+        credits-first (s .table .count) (s .accounts) (v .clear), v .sums (s .table .count),
         total-most burst noRequestor maxBurst (places (s .table)) (λ q h. sound-fair .row q h .burst-most),
         places-length limit (s .table) (v .rows) sound-fair, mul-le-mul-right maxBurst (sound-fair .count-most))
 
@@ -130,14 +135,24 @@ fresh-clear zero (r ∷ rs) e =
     true-and _ _ (true-and _ _ (and-true (eqb (r .burst) 0) _ (b .1) .0) (eq-eqb 0 0 refl)) (fresh-clear zero rs (a .1))
 fresh-clear (suc n) (r ∷ rs) e = fresh-clear n rs e
 
-pub opening-sound : (limit : ℕ) (t : Table) (first : ℕ) → length (t .requestors) ≡ limit → startVerdict limit t first ≡ faultless → Sound limit (opening t first)
-unfolding opening startVerdict
-opening-sound limit t first rows e =
-    let a = then-open _ _ e in
-    let passes = admitted limit t (a .0) .passes in
-    record {
-      rows = rows; accounts = length-map (t .requestors) fresh ∙ rows; passes = passes;
-      slot-most = leb-true _ _ (gate-open _ _ _ (a .1) .0);
-      backlog-most = λ p h. omega (arith, ap backlog (List·getD-map fresh (t .requestors) p noRequestor));
+pub opening-backlog : (t : Table) (first p : ℕ) → backlog (accountAt p (opening t first .accounts)) ≡ 0
+unfolding opening
+opening-backlog t first p = ap backlog (List·getD-map fresh (t .requestors) p noRequestor)
+
+-- an accepted start: its table passes admission, and its state is sound
+module _ (limit : ℕ) (t : Table) (first : ℕ) (e : startVerdict limit t first ≡ faultless) where
+  pub start-admitted : Admitted limit t
+  unfolding startVerdict
+  start-admitted = admitted limit t (then-open _ _ e .0)
+
+  start-slot : first ≤ maxSlot
+  unfolding startVerdict
+  start-slot = leb-true _ _ (gate-open _ _ _ (then-open _ _ e .1) .0)
+
+  pub start-sound : length (t .requestors) ≡ limit → Sound limit (opening t first)
+  unfolding opening
+  start-sound rows = record {
+      rows = rows; accounts = length-map (t .requestors) fresh ∙ rows; passes = start-admitted .passes; slot-most = start-slot;
+      backlog-most = λ p h. omega (arith, opening-backlog t first p);
       sums = λ k. omega (arith, total-take-map credit fresh k (t .requestors));
-      clear = fresh-clear (t .count) (t .requestors) (fair limit t passes .clear) }
+      clear = fresh-clear (t .count) (t .requestors) (fair limit t (start-admitted .passes) .clear) }

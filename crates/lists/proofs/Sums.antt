@@ -1,12 +1,11 @@
--- Laws on sums over a list and over its first k elements, and on tests of a list's images. Assumes nothing.
+-- Laws on sums over a list and over its first k elements. Assumes nothing.
 use mathlib.Core.Path.{_≡_, refl, ap}
-use mathlib.Core.Bool.{Bool, true, false, _&&_}
 use mathlib.Core.List.{List, [], _∷_, map}
 use Prim.Native.Nat.{ℕ, zero, suc, _+_, _-_, _*_, _≤_, _<_}
 use native.Mathlib.Omega.{arith}
 use lib.ListN.{length, getD, take, drop, set}
 use lib.Seq.{take-take}
-use Rattle.lists.specs.Sums.{total, every}
+use Rattle.lists.specs.Sums.{total}
 
 module _ {A : Type 0} (f : A → ℕ) where
   pub total-take-drop : (k : ℕ) (xs : List A) → total f (take k xs) + total f (drop k xs) ≡ total f xs
@@ -31,7 +30,7 @@ module _ {A : Type 0} (f : A → ℕ) (z : A) where
   total-most most [] h = omega arith
   total-most most (x ∷ xs) h = omega (arith, h 0 (omega arith), total-most most xs (λ i l. h (suc i) (omega arith)))
 
-  -- an element may be replaced by one with the same f, or be looked for past the end
+  -- an element is replaced by one with the same f: the sums, and what f sees at each place, stand
   pub total-take-set : (k i : ℕ) (x : A) (xs : List A) → f x ≡ f (getD xs i z) → total f (take k (set xs i x)) ≡ total f (take k xs)
   unfolding total
   total-take-set zero i x xs e = refl

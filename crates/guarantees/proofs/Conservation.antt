@@ -1,0 +1,51 @@
+-- Proves Conservation: what posts brought to a place is what it was granted and what still waits there. Assumes nothing.
+use mathlib.Core.Path.{_≡_, refl}
+use mathlib.Core.List.{List, [], _∷_}
+use Prim.Native.Nat.{ℕ, _+_}
+use native.Mathlib.Omega.{arith}
+use Rattle.lists.specs.Sums.{total}
+use Rattle.lists.specs.Runs.{end, answers}
+use Rattle.arbiter.specs.declared.refusals.Refusal.{Refusal}
+use Rattle.arbiter.specs.declared.state.Arbiter.{Arbiter}
+use Rattle.arbiter.specs.Answers.{refused}
+use Rattle.arbiter.specs.Table.{places}
+use Rattle.arbiter.specs.State.{backlog, accountAt}
+use Rattle.arbiter.specs.Start.{opening}
+use Rattle.arbiter.proofs.Sound.{Sound, opening-backlog}
+use Rattle.calls.specs.Rule.{slotted}
+use Rattle.calls.specs.Calls.{Call, post, slot, grantOf, advanced, ruled}
+use Rattle.guarantees.specs.Counts.{grantsTo}
+use Rattle.guarantees.specs.Conservation.{brought, broughtTo, Conservation}
+use Rattle.guarantees.proofs.Grants.{grantTo, grant-to}
+use Rattle.guarantees.proofs.Slots.{slotted-backlog}
+use Rattle.guarantees.proofs.Step.{by-kind, post-place, filled-backlog}
+use Rattle.guarantees.proofs.Sound.{accounts-cover, sound-next}
+use Rattle.guarantees.proofs.Start.{opening-sound, entered-ruled, answered-ruled}
+
+brought-refused : (p : ℕ) (c : Call) (r : Refusal) → brought p c (refused r) ≡ 0
+unfolding brought
+brought-refused p (post q count) r = refl
+brought-refused p slot r = refl
+
+-- one call
+pub conserved-next : (limit p : ℕ) (s : Arbiter) (c : Call) → Sound limit s
+    → brought p c (ruled s c .answer) + backlog (accountAt p (s .accounts))
+      ≡ grantTo p (ruled s c .answer) + backlog (accountAt p (ruled s c .state .accounts))
+unfolding brought advanced grantOf slotted
+conserved-next limit p s c v = by-kind (λ c u a. brought p c a + backlog (accountAt p (s .accounts)) ≡ grantTo p a + backlog (accountAt p (u .accounts))) s c
+    (λ r e. omega (arith, brought-refused p c r))
+    (λ q count e. omega (arith, filled-backlog s p q count (omega (arith, post-place s q count e, accounts-cover limit s v))))
+    (λ e. omega (arith, grant-to p (s .slot .0) (grantOf s), slotted-backlog (s .table .denominator) p (places (s .table)) (s .accounts)))
+
+-- any calls, from any sound state
+pub conserved : (limit p : ℕ) (s : Arbiter) (calls : List Call) → Sound limit s
+    → broughtTo p calls (answers ruled s calls) + backlog (accountAt p (s .accounts))
+      ≡ grantsTo p (answers ruled s calls) + backlog (accountAt p (end ruled s calls .accounts))
+unfolding end answers broughtTo total
+conserved limit p s [] v = refl
+conserved limit p s (c ∷ calls) v = omega (arith, conserved-next limit p s c v, conserved limit p (ruled s c .state) calls (sound-next limit s c v))
+
+pub conservation : Conservation
+conservation limit t first a calls p =
+    rw (entered-ruled limit t first a calls, answered-ruled limit t first a calls)
+    (omega (arith, conserved limit p (opening t first) calls (opening-sound limit t first a), opening-backlog t first p))

@@ -1,0 +1,78 @@
+-- What one grant counts for a place and for the first k places, and what a slot's answer tells of its grant. Assumes nothing.
+use mathlib.Core.Path.{_≡_, refl}
+use Prim.Native.Nat.{ℕ, suc, _<_}
+use lib.Dec.{ltb, leb·suc-zero, leb·suc-suc, eqb·suc-zero, eqb·suc-suc}
+use Rattle.lists.specs.Choices.{cases}
+use Rattle.arbiter.specs.declared.state.Arbiter.{Arbiter}
+use Rattle.arbiter.specs.Answers.{Answer, accepted, granted, idle, refused}
+use Rattle.arbiter.specs.State.{backlog, accountAt}
+use Rattle.calls.specs.declared.slot.Grant.{Grant}
+use Rattle.calls.specs.declared.slot.Grant.the-variants.{Nobody, Place}
+use Rattle.calls.specs.Rule.{later}
+use Rattle.calls.specs.Calls.{slotAnswer}
+use Rattle.guarantees.specs.Counts.{inSlot, toPlace, toFirst}
+
+pub to-first-zero : (g : Grant) → toFirst 0 g ≡ 0
+unfolding toFirst
+to-first-zero Nobody = refl
+to-first-zero (Place i) = rw (leb·suc-zero i)
+
+pub to-first-later : (k : ℕ) (g : Grant) → toFirst (suc k) (later g) ≡ toFirst k g
+unfolding toFirst later
+to-first-later k Nobody = refl
+to-first-later k (Place i) = rw (leb·suc-suc (suc i) k)
+
+pub to-first-one : (k : ℕ) (g : Grant) → (toFirst k g ≡ 0 → ⊥) → toFirst k g ≡ 1
+unfolding toFirst
+to-first-one k Nobody h = absurd (h refl)
+to-first-one k (Place i) h = cases (ltb i k) (λ e. rw e) (λ e. absurd (h (rw e)))
+
+pub to-place-later-zero : (g : Grant) → toPlace 0 (later g) ≡ 0
+unfolding toPlace later
+to-place-later-zero Nobody = refl
+to-place-later-zero (Place i) = rw (eqb·suc-zero i)
+
+pub to-place-later : (p : ℕ) (g : Grant) → toPlace (suc p) (later g) ≡ toPlace p g
+unfolding toPlace later
+to-place-later p Nobody = refl
+to-place-later p (Place i) = rw (eqb·suc-suc i p)
+
+-- an accepted slot's answer is read by its grant
+pub in-slot-answer {ℓ} : {X : Type ℓ} (x : X) (f : Grant → X) (stamp : ℕ) (g : Grant) → inSlot x f (slotAnswer stamp g) ≡ f g
+in-slot-answer x f stamp Nobody = refl
+in-slot-answer x f stamp (Place p) = refl
+
+-- so are the counts
+abbrev pub slotIn : Answer → ℕ
+slotIn = inSlot 0 (λ g. 1)
+
+abbrev pub grantTo : ℕ → Answer → ℕ
+grantTo p = inSlot 0 (toPlace p)
+
+abbrev pub grantToFirst : ℕ → Answer → ℕ
+grantToFirst k = inSlot 0 (toFirst k)
+
+pub slot-in : (stamp : ℕ) (g : Grant) → slotIn (slotAnswer stamp g) ≡ 1
+slot-in = in-slot-answer {X = ℕ} 0 (λ g. 1)
+
+pub grant-to : (p stamp : ℕ) (g : Grant) → grantTo p (slotAnswer stamp g) ≡ toPlace p g
+grant-to p = in-slot-answer {X = ℕ} 0 (toPlace p)
+
+pub grant-to-first : (k stamp : ℕ) (g : Grant) → grantToFirst k (slotAnswer stamp g) ≡ toFirst k g
+grant-to-first k = in-slot-answer {X = ℕ} 0 (toFirst k)
+
+-- what is asked of each accepted slot, said of one
+pub slot-meets : (P : Type 0) (stamp : ℕ) (g : Grant) → inSlot (Unit {0}) (λ g. P) (slotAnswer stamp g) → P
+slot-meets P stamp Nobody h = h
+slot-meets P stamp (Place p) h = h
+
+-- and what holds anyway holds in each
+pub in-any-slot : (P : Type 0) (a : Answer) → P → inSlot (Unit {0}) (λ g. P) a
+in-any-slot P accepted h = tt
+in-any-slot P (granted stamp p) h = h
+in-any-slot P (idle stamp) h = h
+in-any-slot P (refused r) h = tt
+
+-- what `Waits` asks at each call
+abbrev pub WaitsAt : ℕ → Arbiter → Answer → Type 0
+WaitsAt p s = inSlot (Unit {0}) (λ g. 0 < backlog (accountAt p (s .accounts)))

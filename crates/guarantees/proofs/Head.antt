@@ -1,0 +1,103 @@
+-- What the rule does at the first of several places: it is granted, or passed over and the search goes on. Assumes nothing.
+use mathlib.Core.Path.{_≡_, refl}
+use mathlib.Core.Bool.{true, false}
+use mathlib.Core.List.{List, [], _∷_}
+use Prim.Native.Nat.{ℕ, suc, _+_, _≤_, _<_}
+use native.Mathlib.Omega.{arith}
+use borrow.Author.Tests.{ltb-true, leb-true, leb-false, lt-ltb, ne-eqb}
+use lib.Dec.{ltb}
+use Rattle.lists.specs.Choices.{cases}
+use Rattle.lists.proofs.Tests.{true-false}
+use Rattle.arbiter.specs.declared.table.Requestor.{Requestor}
+use Rattle.arbiter.specs.declared.state.Account.{Account}
+use Rattle.arbiter.specs.State.{backlog}
+use Rattle.calls.specs.declared.slot.Grant.{Grant}
+use Rattle.calls.specs.declared.slot.Grant.the-variants.{Nobody, Place}
+use Rattle.calls.specs.Rule.{eligible, later, first, served, passed, after, slotted}
+use Rattle.guarantees.specs.Counts.{toPlace, toFirst}
+use Rattle.guarantees.proofs.Grants.{to-first-later, to-place-later-zero, to-place-later}
+
+module _ (d : ℕ) (r : Requestor) (a : Account) where
+  eligible-waits : eligible d r a ≡ true → 0 < backlog a
+  unfolding eligible
+  eligible-waits e = cases (ltb 0 (backlog a)) (λ h. ltb-true 0 (backlog a) h) (λ h. true-false (cc))
+
+  eligible-enough : eligible d r a ≡ true → d ≤ a .credit + r .rate
+  unfolding eligible
+  eligible-enough e = cases (ltb 0 (backlog a)) (λ h. let f = rw h at e in omega (arith, leb-true)) (λ h. true-false (cc))
+
+  not-eligible-short : eligible d r a ≡ false → 0 < backlog a → a .credit + r .rate < d
+  unfolding eligible
+  not-eligible-short e h = let f = rw (lt-ltb 0 (backlog a) h) at e in omega (arith, leb-false)
+
+module _ (d : ℕ) (r : Requestor) (rs : List Requestor) (a : Account) (accounts : List Account) where
+  pub record Granted : Type 0 where
+    pub waiting : 0 < backlog a
+    pub enough : d ≤ a .credit + r .rate
+    pub slotted-is : slotted d (r ∷ rs) (a ∷ accounts) ≡ served d r a ∷ after d Nobody rs accounts
+    pub to-first-is : (k : ℕ) → toFirst (suc k) (first d (r ∷ rs) (a ∷ accounts)) ≡ 1
+    pub to-head-is : toPlace 0 (first d (r ∷ rs) (a ∷ accounts)) ≡ 1
+    pub to-tail-is : (p : ℕ) → toPlace (suc p) (first d (r ∷ rs) (a ∷ accounts)) ≡ 0
+
+  pub record Passed : Type 0 where
+    pub short : 0 < backlog a → a .credit + r .rate < d
+    pub slotted-is : slotted d (r ∷ rs) (a ∷ accounts) ≡ passed r a ∷ slotted d rs accounts
+    pub to-first-is : (k : ℕ) → toFirst (suc k) (first d (r ∷ rs) (a ∷ accounts)) ≡ toFirst k (first d rs accounts)
+    pub to-head-is : toPlace 0 (first d (r ∷ rs) (a ∷ accounts)) ≡ 0
+    pub to-tail-is : (p : ℕ) → toPlace (suc p) (first d (r ∷ rs) (a ∷ accounts)) ≡ toPlace p (first d rs accounts)
+
+  after-later : (g : Grant) → after d (later g) (r ∷ rs) (a ∷ accounts) ≡ passed r a ∷ after d g rs accounts
+  unfolding after later
+  after-later Nobody = refl
+  after-later (Place p) = refl
+
+  pub head-granted : eligible d r a ≡ true → Granted
+  unfolding slotted first after toFirst toPlace
+  head-granted e = record {
+      waiting = eligible-waits d r a e; enough = eligible-enough d r a e; slotted-is = rw e;
+      to-first-is = λ k. rw (e, lt-ltb 0 (suc k) (omega arith)); to-head-is = rw e; to-tail-is = λ p. rw (e, ne-eqb 0 (suc p) (omega arith)) }
+
+  pub head-passed : eligible d r a ≡ false → Passed
+  unfolding slotted first
+  head-passed e = record {
+      short = not-eligible-short d r a e; slotted-is = rw e (after-later (first d rs accounts));
+      to-first-is = λ k. rw e (to-first-later k (first d rs accounts));
+      to-head-is = rw e (to-place-later-zero (first d rs accounts));
+      to-tail-is = λ p. rw e (to-place-later p (first d rs accounts)) }
+
+  pub by-head {ℓ} : {X : Type ℓ} → (Granted → X) → (Passed → X) → X
+  by-head f g = cases (eligible d r a) (λ e. f (head-granted e)) (λ e. g (head-passed e))
+
+-- with no requestor, or no account, nothing happens
+pub slotted-no-place : (d : ℕ) (accounts : List Account) → slotted d [] accounts ≡ accounts
+unfolding slotted first after
+slotted-no-place d accounts = refl
+
+pub slotted-no-account : (d : ℕ) (r : Requestor) (rs : List Requestor) → slotted d (r ∷ rs) [] ≡ []
+unfolding slotted first after
+slotted-no-account d r rs = refl
+
+pub first-no-place : (d : ℕ) (accounts : List Account) → first d [] accounts ≡ Nobody
+unfolding first
+first-no-place d accounts = refl
+
+pub first-no-account : (d : ℕ) (r : Requestor) (rs : List Requestor) → first d (r ∷ rs) [] ≡ Nobody
+unfolding first
+first-no-account d r rs = refl
+
+-- the credit of a place that is passed over
+module _ (r : Requestor) (a : Account) where
+  pub passed-waiting : 0 < backlog a → passed r a .credit ≡ a .credit + r .rate
+  unfolding passed
+  passed-waiting h = rw (lt-ltb 0 (backlog a) h) (omega arith)
+
+  pub passed-most : passed r a .credit ≤ a .credit + r .rate
+  unfolding passed
+  passed-most = cases (ltb 0 (backlog a)) (λ e. rw e (omega arith)) (λ e. rw e (omega arith))
+
+  -- not waiting, it is capped; waiting, it is short of D, which is at most b
+  pub passed-within : (d : ℕ) → (0 < backlog a → d ≤ r .burst) → (0 < backlog a → a .credit + r .rate < d) → passed r a .credit ≤ r .burst
+  unfolding passed
+  passed-within d roomy short = cases (ltb 0 (backlog a))
+      (λ e. rw e (omega (arith, roomy (ltb-true 0 (backlog a) e), short (ltb-true 0 (backlog a) e))))
+      (λ e. rw e (omega arith))

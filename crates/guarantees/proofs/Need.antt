@@ -1,0 +1,116 @@
+-- Proves Need: j transfers that wait together, entered with credit at least D, are granted within the finish figure, and so within
+-- the table's own L. Assumes nothing.
+use mathlib.Core.Path.{_≡_, refl, ap}
+use mathlib.Core.List.{List, [], _∷_}
+use mathlib.Core.Logic.{_⊎_, inl, inr}
+use Prim.Native.Nat.{ℕ, zero, suc, _+_, _-_, _*_, _≤_, _<_}
+use native.Mathlib.Nat.{mul-le-mul-left, one-le-mul, div-add-mod, mod-lt}
+use native.Mathlib.Decide.{decLe}
+use native.Mathlib.Omega.{arith}
+use lib.ListN.{length}
+use Rattle.lists.specs.Sums.{total}
+use Rattle.lists.specs.Runs.{answers}
+use Rattle.arbiter.specs.declared.table.Table.{Table}
+use Rattle.arbiter.specs.declared.state.Arbiter.{Arbiter}
+use Rattle.arbiter.specs.Answers.{Answer, accepted, granted, idle, refused}
+use Rattle.arbiter.specs.Table.{places}
+use Rattle.arbiter.specs.Figures.{roundedUp, burstsAbove, rateLeft, finishOf, finish}
+use Rattle.arbiter.specs.State.{backlog, requestorAt, accountAt}
+use Rattle.arbiter.proofs.Checks.{fair}
+use Rattle.arbiter.proofs.Sound.{Sound, places-length, row-at, sound-fair, start-admitted}
+use Rattle.calls.specs.Calls.{Call, ruled}
+use Rattle.guarantees.specs.Counts.{inSlot, slotsIn, grantsTo, firstSlots, Waits}
+use Rattle.guarantees.specs.Need.{Pending, GrantedWithin, Need-from-sound, Need-from-start, Own-need}
+use Rattle.guarantees.proofs.Grants.{grantTo, in-any-slot}
+use Rattle.guarantees.proofs.Sound.{sound-of, sound-next, answers-ruled}
+use Rattle.guarantees.proofs.Start.{start-passes, called-sound, called-table}
+use Rattle.guarantees.proofs.SharperFloor.{own-rate-left}
+use Rattle.guarantees.proofs.Demand3.{floor-from}
+use Rattle.guarantees.proofs.Conservation.{conserved-next}
+
+-- the calls up to the m-th accepted slot
+firstCalls : Arbiter → List Call → ℕ → List Call
+firstCalls s [] m = []
+firstCalls s (c ∷ calls) zero = []
+firstCalls s (c ∷ calls) (suc m) = c ∷ firstCalls (ruled s c .state) calls (inSlot (suc m) (λ g. m) (ruled s c .answer))
+
+first-calls-answer : (s : Arbiter) (calls : List Call) (m : ℕ) → answers ruled s (firstCalls s calls m) ≡ firstSlots (answers ruled s calls) m
+unfolding firstCalls answers firstSlots
+first-calls-answer s [] m = refl
+first-calls-answer s (c ∷ calls) zero = refl
+first-calls-answer s (c ∷ calls) (suc m) = ap (λ heard. ruled s c .answer ∷ heard) (first-calls-answer (ruled s c .state) calls _)
+
+first-slots-count : (heard : List Answer) (m : ℕ) → m ≤ slotsIn heard → slotsIn (firstSlots heard m) ≡ m
+unfolding firstSlots total
+first-slots-count [] m h = omega arith
+first-slots-count (a ∷ heard) zero h = refl
+first-slots-count (accepted ∷ heard) (suc m) h = omega (arith, first-slots-count heard (suc m) (omega arith))
+first-slots-count (granted stamp p ∷ heard) (suc m) h = omega (arith, first-slots-count heard m (omega arith))
+first-slots-count (idle stamp ∷ heard) (suc m) h = omega (arith, first-slots-count heard m (omega arith))
+first-slots-count (refused r ∷ heard) (suc m) h = omega (arith, first-slots-count heard (suc m) (omega arith))
+
+-- j transfers wait: either all are granted, or the place waits throughout
+waits-or-granted : (limit p j : ℕ) (s : Arbiter) (calls : List Call) → Sound limit s → j ≤ backlog (accountAt p (s .accounts))
+    → (j ≤ grantsTo p (answers ruled s calls)) ⊎ Waits p s calls
+unfolding answers total
+waits-or-granted limit p j s [] v h = inr tt
+waits-or-granted limit p zero s (c ∷ calls) v h = inl (omega arith)
+waits-or-granted limit p (suc j) s (c ∷ calls) v h =
+    both (waits-or-granted limit p (suc j - grantTo p (ruled s c .answer)) (ruled s c .state) calls (sound-next limit s c v)
+        (omega (arith, conserved-next limit p s c v)))
+  where
+    both : (suc j - grantTo p (ruled s c .answer) ≤ grantsTo p (answers ruled (ruled s c .state) calls)) ⊎ Waits p (ruled s c .state) calls
+        → (suc j ≤ grantTo p (ruled s c .answer) + grantsTo p (answers ruled (ruled s c .state) calls)) ⊎ Waits p s (c ∷ calls)
+    both (inl x) = inl (omega arith)
+    both (inr w) = inr (in-any-slot (0 < backlog (accountAt p (s .accounts))) (ruled s c .answer) (omega arith), w)
+
+rounded-up-covers : (a b : ℕ) → 1 ≤ b → a ≤ b * roundedUp a b
+unfolding roundedUp
+rounded-up-covers a b h = omega (arith, div-add-mod (a + (b - 1)) b, mod-lt (a + (b - 1)) h)
+
+-- in as many slots as the finish figure says, the floor comes to j grants
+floor-enough : (d n R B L g j : ℕ) → 1 ≤ d → 1 ≤ n → 1 ≤ R → n * R * L ≤ R * d * g + n * B → finishOf d B R n j ≤ L → j ≤ g
+floor-enough d n R B L g j hd hn hR floor figure = elim (decLe j g)
+    [ yes all ↦ all
+    | no fewer ↦ let lacks : g + 1 ≤ j = omega arith in
+        omega (arith, mul-le-mul-left n (mul-le-mul-left R figure), mul-le-mul-left n (rounded-up-covers B R hR),
+            mul-le-mul-left R (rounded-up-covers (j * d) n hn), mul-le-mul-left R (mul-le-mul-left d lacks), one-le-mul hR hd) ]
+
+-- T is the table that stands where the stretch begins; any number of slots from the finish figure on will do
+pub need-from : (limit : ℕ) (T : Table) (s : Arbiter) → s .table ≡ T → Sound limit s → (inside : List Call) (p j slots : ℕ)
+    → Pending limit s inside p j → finish (T .denominator) (places T) p j ≤ slots → GrantedWithin limit s inside slots p j
+unfolding finish
+need-from limit T s on v inside p j slots pending figure reached =
+    rw (answers-ruled limit s inside v, ← first-calls-answer s inside slots) (omega (arith, go (waits-or-granted limit p j s calls v (omega arith))))
+  where
+    calls : List Call
+    calls = firstCalls s inside slots
+    place : p < T .count
+    place = omega (arith, ap (λ t. t .count) on)
+    counted : slotsIn (answers ruled s calls) ≡ slots
+    counted = rw (first-calls-answer s inside slots)
+        (first-slots-count (answers ruled s inside) slots (omega (arith, rw (answers-ruled limit s inside v) at reached)))
+    go : (j ≤ grantsTo p (answers ruled s calls)) ⊎ Waits p s calls → j ≤ grantsTo p (answers ruled s calls)
+    go (inl all) = all
+    go (inr waits) = floor-enough (T .denominator) (requestorAt p (places T) .rate) (rateLeft (T .denominator) p (places T)) (burstsAbove p (places T)) _ _ j
+        (rw on at (sound-fair limit s v .denominator-least))
+        (row-at limit T (rw on at (v .rows)) (rw on at (sound-fair limit s v)) p place .rate-least)
+        (own-rate-left limit T s on v p place .1)
+        (floor-from limit T s on v calls p place waits (omega (arith, ap (λ t. t .denominator) on)))
+        (rw counted figure)
+
+pub need-from-sound : Need-from-sound
+need-from-sound limit s shape e inside p j pending =
+    need-from limit (s .table) s refl (sound-of limit s shape e) inside p j _ pending (omega arith)
+
+pub need-from-start : Need-from-start
+need-from-start limit t first a before inside p j pending =
+    need-from limit t _ (called-table limit t first a before) (called-sound limit t first a before) inside p j _ pending (omega arith)
+
+-- check 7 held the table's own L to the figure
+pub own-need : Own-need
+own-need limit t first a before inside p pending =
+    let table = start-admitted limit t first (start-passes limit t first a) in
+    let on = called-table limit t first a before in
+    let place : p < length (places t) = omega (arith, ap (λ t. t .count) on, places-length limit t (a .rows) (fair limit t (table .passes))) in
+    need-from limit t _ on (called-sound limit t first a before) inside p _ _ pending (omega (arith, table .need p place))

@@ -1,0 +1,32 @@
+-- "From a start on, transfers accepted in posts to a place equal those granted to it plus its backlog."
+use mathlib.Core.Path.{_≡_}
+use mathlib.Core.List.{List, [], _∷_}
+use Prim.Native.Nat.{ℕ, _+_}
+use lib.Dec.{eqb}
+use Rattle.lists.specs.Choices.{pick}
+use Rattle.lists.specs.Runs
+use Rattle.arbiter.specs.declared.table.Table.{Table}
+use Rattle.arbiter.specs.declared.state.Arbiter.{Arbiter}
+use Rattle.arbiter.specs.Answers.{Answer, accepted, granted, idle, refused}
+use Rattle.arbiter.specs.State.{backlog, accountAt}
+use Rattle.calls.specs.Calls.{Call, post, slot, called}
+use Rattle.guarantees.specs.Counts.{grantsTo, Accepted, opened}
+
+-- the transfers that a call with this answer brought to place p
+unfoldable pub brought : ℕ → Call → Answer → ℕ
+brought p slot a = 0
+brought p (post i count) accepted = pick (eqb i p) count 0
+brought p (post i count) (granted stamp q) = 0
+brought p (post i count) (idle stamp) = 0
+brought p (post i count) (refused r) = 0
+
+unfoldable pub broughtTo : ℕ → List Call → List Answer → ℕ
+broughtTo p [] heard = 0
+broughtTo p (c ∷ cs) [] = 0
+broughtTo p (c ∷ cs) (a ∷ heard) = brought p c a + broughtTo p cs heard
+
+abbrev pub Conservation : Type 0
+Conservation = (limit : ℕ) (t : Table) (first : ℕ) → Accepted limit t first → (calls : List Call) (p : ℕ)
+    → broughtTo p calls (Runs.answers (called limit) (opened limit t first) calls)
+      ≡ grantsTo p (Runs.answers (called limit) (opened limit t first) calls)
+        + backlog (accountAt p (Runs.end (called limit) (opened limit t first) calls .accounts))

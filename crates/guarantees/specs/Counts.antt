@@ -1,0 +1,66 @@
+-- Document 01, "Wait, finish and lead": what is counted along a list of calls. "Granted is what the accepted slots answer", so
+-- slots and grants are counted in the answers.
+use mathlib.Core.List.{List, [], _∷_}
+use Prim.Native.Nat.{ℕ, zero, suc, _<_}
+use mathlib.Core.Path.{_≡_}
+use lib.Dec.{ltb, eqb}
+use lib.ListN.{length}
+use Rattle.lists.specs.Choices.{pick}
+use Rattle.lists.specs.Sums.{total}
+use Rattle.lists.specs.Runs
+use Rattle.arbiter.specs.declared.table.Table.{Table}
+use Rattle.arbiter.specs.declared.state.Arbiter.{Arbiter}
+use Rattle.arbiter.specs.Answers.{Answer, accepted, granted, idle, refused}
+use Rattle.arbiter.specs.State.{backlog, accountAt}
+use Rattle.arbiter.specs.Start.{start}
+use Rattle.calls.specs.declared.slot.Grant.{Grant}
+use Rattle.calls.specs.declared.slot.Grant.the-variants.{Nobody, Place}
+use Rattle.calls.specs.Calls.{Call, ruled}
+
+-- f of the grant of an accepted slot, x of any other answer
+abbrev pub inSlot {ℓ} : {X : Type ℓ} → X → (Grant → X) → Answer → X
+inSlot x f accepted = x
+inSlot x f (granted stamp p) = f (Place p)
+inSlot x f (idle stamp) = f Nobody
+inSlot x f (refused r) = x
+
+-- 1 if the grant is to place p, 0 if not
+unfoldable pub toPlace : ℕ → Grant → ℕ
+toPlace p Nobody = 0
+toPlace p (Place i) = pick (eqb i p) 1 0
+
+-- 1 if the grant is to one of the first k places, 0 if not
+unfoldable pub toFirst : ℕ → Grant → ℕ
+toFirst k Nobody = 0
+toFirst k (Place i) = pick (ltb i k) 1 0
+
+-- the number of accepted slots: L of a stretch
+abbrev pub slotsIn : List Answer → ℕ
+slotsIn = total (inSlot 0 (λ g. 1))
+
+-- the transfers granted to place p: g of a stretch
+abbrev pub grantsTo : ℕ → List Answer → ℕ
+grantsTo p = total (inSlot 0 (toPlace p))
+
+-- the transfers granted to the first k places
+abbrev pub grantsToFirst : ℕ → List Answer → ℕ
+grantsToFirst k = total (inSlot 0 (toFirst k))
+
+-- the answers up to the m-th accepted slot
+unfoldable pub firstSlots : List Answer → ℕ → List Answer
+firstSlots [] m = []
+firstSlots (a ∷ heard) zero = []
+firstSlots (a ∷ heard) (suc m) = a ∷ firstSlots heard (inSlot (suc m) (λ g. m) a)
+
+-- "A place has a transfer waiting in a slot when its q is above 0 directly before that slot": so in each accepted slot
+abbrev pub Waits : ℕ → Arbiter → List Call → Type 0
+Waits p = Runs.Each ruled (λ s. inSlot (Unit {0}) (λ g. 0 < backlog (accountAt p (s .accounts))))
+
+-- the table and first slot number of an accepted start; an array of `limit` rows holds the table
+pub record Accepted (limit : ℕ) (t : Table) (first : ℕ) : Type 0 where
+  pub rows : length (t .requestors) ≡ limit
+  pub answer : start limit t first .answer ≡ accepted
+
+-- the state that start hands back
+abbrev pub opened : ℕ → Table → ℕ → Arbiter
+opened limit t first = start limit t first .state

@@ -1,0 +1,33 @@
+-- "What never passes is the sum: at every moment the credits of places 0 to k sum to at most their bursts." So the state
+-- always passes test 23. And "R is at least n".
+use mathlib.Core.Path.{_≡_}
+use mathlib.Core.Bool.{true}
+use mathlib.Core.List.{List}
+use Prim.Native.Nat.{ℕ, suc, _≤_, _<_}
+use lib.ListN.{take, length}
+use Rattle.lists.specs.Sums.{total}
+use Rattle.lists.specs.Runs
+use Rattle.arbiter.specs.declared.table.Table.{Table}
+use Rattle.arbiter.specs.declared.state.Arbiter.{Arbiter}
+use Rattle.arbiter.specs.Refusals.{Verdict, faultless, refusal}
+use Rattle.arbiter.specs.Answers.{refused}
+use Rattle.arbiter.specs.Table.{burst, places, tableVerdict}
+use Rattle.arbiter.specs.Figures.{rateLeft}
+use Rattle.arbiter.specs.State.{credit, requestorAt, sound}
+use Rattle.calls.specs.Calls.{Call, called}
+use Rattle.guarantees.specs.Counts.{Accepted, opened}
+
+-- of a state s
+pub record Sustained (limit : ℕ) (s : Arbiter) : Type 0 where
+  pub sums : (k : ℕ) → total credit (take (suc k) (s .accounts)) ≤ total burst (take (suc k) (s .table .requestors))
+  pub passes-23 : sound limit s ≡ true
+  pub never-23 : (c : Call) → called limit s c .answer ≡ refused (refusal 23) → ⊥
+
+abbrev pub Credit-sums : Type 0
+Credit-sums = (limit : ℕ) (t : Table) (first : ℕ) → Accepted limit t first → (calls : List Call)
+    → Sustained limit (Runs.end (called limit) (opened limit t first) calls)
+
+-- n ≤ R, so R ≥ 1, at every place of a table that passes checks 1 to 6
+abbrev pub Rate-left : Type 0
+Rate-left = (limit : ℕ) (t : Table) → length (t .requestors) ≡ limit → tableVerdict limit t ≡ faultless → (p : ℕ) → p < t .count
+    → (requestorAt p (places t) .rate ≤ rateLeft (t .denominator) p (places t)) × (1 ≤ rateLeft (t .denominator) p (places t))

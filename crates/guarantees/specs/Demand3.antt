@@ -1,0 +1,62 @@
+-- DEMAND 3. "Demand 3 is a single claim about a list of calls." The list starts from the state of an accepted start and holds
+-- posts and slots in any order, with any places and counts, refused ones too; `before` leads to a stretch, `inside` holds it.
+use mathlib.Core.Path.{_≡_}
+use mathlib.Core.List.{List}
+use mathlib.Core.Logic.{_⊎_}
+use Prim.Native.Nat.{ℕ, _+_, _*_, _≤_, _<_}
+use lib.ListN.{take}
+use Rattle.lists.specs.Sums.{total}
+use Rattle.lists.specs.Runs
+use Rattle.arbiter.specs.declared.table.Requestor.{Requestor}
+use Rattle.arbiter.specs.declared.table.Table.{Table}
+use Rattle.arbiter.specs.declared.state.Arbiter.{Arbiter}
+use Rattle.arbiter.specs.Answers.{Answer}
+use Rattle.arbiter.specs.Table.{rate, burst, places}
+use Rattle.arbiter.specs.Figures.{burstsAbove, rateLeft}
+use Rattle.arbiter.specs.State.{credit, requestorAt, accountAt}
+use Rattle.arbiter.specs.Start.{opening}
+use Rattle.calls.specs.Calls.{Call, ruled, called}
+use Rattle.guarantees.specs.Counts.{slotsIn, grantsTo, grantsToFirst, Waits, Accepted, opened}
+
+-- "D times the grants to the first k is at most their summed bursts plus L times their summed rates"
+abbrev pub Ceiling : ℕ → List Requestor → ℕ → ℕ → ℕ → Type 0
+Ceiling d rs k L g = d * g ≤ total burst (take k rs) + L * total rate (take k rs)
+
+-- "R × D × g is at least n × (R × L − B)"
+abbrev pub Floor : ℕ → List Requestor → ℕ → ℕ → ℕ → Type 0
+Floor d rs p L g = n * R * L ≤ R * d * g + n * B
+  where
+    n : ℕ
+    n = requestorAt p rs .rate
+    R : ℕ
+    R = rateLeft d p rs
+    B : ℕ
+    B = burstsAbove p rs
+
+module _ (limit : ℕ) (t : Table) (first : ℕ) (before inside : List Call) where
+  -- the state that enters the stretch, and the stretch's answers: each call gets the state that the one before handed back
+  abbrev pub entered : Arbiter
+  entered = Runs.end (called limit) (opened limit t first) before
+
+  abbrev pub heard : List Answer
+  heard = Runs.answers (called limit) entered inside
+
+  -- what the rule works out from the table, the first slot number and the calls alone
+  abbrev pub ruledEntered : Arbiter
+  ruledEntered = Runs.end ruled (opening t first) before
+
+  pub record Demand3 : Type 0 where
+    -- (i) states and answers are the rule's
+    pub entered-by-rule : entered ≡ ruledEntered
+    pub before-by-rule : Runs.answers (called limit) (opened limit t first) before ≡ Runs.answers ruled (opening t first) before
+    pub heard-by-rule : heard ≡ Runs.answers ruled ruledEntered inside
+    pub left-by-rule : Runs.end (called limit) entered inside ≡ Runs.end ruled ruledEntered inside
+    -- (ii) the ceiling
+    pub ceiling : (k : ℕ) → 1 ≤ k → k ≤ t .count → Ceiling (t .denominator) (places t) k (slotsIn heard) (grantsToFirst k heard)
+    -- (iii) the floor
+    pub floor : (p : ℕ) → p < t .count → Waits p ruledEntered inside
+        → t .denominator ≤ credit (accountAt p (ruledEntered .accounts))
+        → Floor (t .denominator) (places t) p (slotsIn heard) (grantsTo p heard)
+
+abbrev pub Demand-3 : Type 0
+Demand-3 = (limit : ℕ) (t : Table) (first : ℕ) → Accepted limit t first → (before inside : List Call) → Demand3 limit t first before inside

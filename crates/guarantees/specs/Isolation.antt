@@ -1,0 +1,63 @@
+-- "A post to a place changes no grant, credit or backlog of the places above it: two runs from one start, with the same posts
+-- to places 0 to k before each slot, show those places the same after each slot."
+use mathlib.Core.Path.{_≡_}
+use mathlib.Core.Bool.{Bool, true, false}
+use mathlib.Core.List.{List, [], _∷_}
+use Prim.Native.Nat.{ℕ, suc}
+use lib.Dec.{ltb}
+use lib.ListN.{take}
+use Rattle.lists.specs.Choices.{pick}
+use Rattle.lists.specs.Runs
+use Rattle.arbiter.specs.declared.refusals.Refusal.{Refusal}
+use Rattle.arbiter.specs.declared.table.Table.{Table}
+use Rattle.arbiter.specs.declared.state.Account.{Account}
+use Rattle.arbiter.specs.declared.state.Arbiter.{Arbiter}
+use Rattle.arbiter.specs.Answers.{Answer, accepted, granted, idle, refused}
+use Rattle.calls.specs.Calls.{Call, post, slot, called}
+use Rattle.guarantees.specs.Counts.{Accepted, opened}
+
+-- the slots, and the posts to the first m places, refused ones included
+abbrev pub keep : Bool → Call → List Call → List Call
+keep true c cs = c ∷ cs
+keep false c cs = cs
+
+unfoldable pub concerns : ℕ → Call → Bool
+concerns m (post p count) = ltb p m
+concerns m slot = true
+
+unfoldable pub concerning : ℕ → List Call → List Call
+concerning m [] = []
+concerning m (c ∷ cs) = keep (concerns m c) c (concerning m cs)
+
+-- a slot's answer as the first m places see it: a grant to one of them, or none to them, or a refusal
+pub data View : Type 0 where
+  own : (stamp place : ℕ) → View
+  other : (stamp : ℕ) → View
+  turned-down : Refusal → View
+  no-slot : View
+
+unfoldable pub view : ℕ → Answer → View
+view m accepted = no-slot
+view m (granted stamp p) = pick (ltb p m) (own stamp p) (other stamp)
+view m (idle stamp) = other stamp
+view m (refused r) = turned-down r
+
+-- what the first m places are shown after a slot, accepted or refused
+pub record Shown : Type 0 where
+  pub accounts : List Account
+  pub answer : View
+
+unfoldable pub shows : ℕ → Call → Runs.Result Arbiter Answer → List Shown → List Shown
+shows m slot r rest = record { accounts = take m (r .state .accounts); answer = view m (r .answer) } ∷ rest
+shows m (post p count) r rest = rest
+
+-- after each slot of a list of calls
+unfoldable pub shown : (Arbiter → Call → Runs.Result Arbiter Answer) → ℕ → Arbiter → List Call → List Shown
+shown step m s [] = []
+shown step m s (c ∷ cs) = shows m c (step s c) (shown step m (step s c .state) cs)
+
+-- places 0 to k are the first suc k
+abbrev pub Isolation : Type 0
+Isolation = (limit : ℕ) (t : Table) (first : ℕ) → Accepted limit t first → (k : ℕ) (calls others : List Call)
+    → concerning (suc k) calls ≡ concerning (suc k) others
+    → shown (called limit) (suc k) (opened limit t first) calls ≡ shown (called limit) (suc k) (opened limit t first) others

@@ -1,0 +1,31 @@
+-- The floor before its premise on credit is used: whatever credit c a place enters a stretch with, one of two bounds on its grants
+-- holds. Demand 3's floor is what both come to where c is at least D.
+use mathlib.Core.Path.{_≡_}
+use mathlib.Core.Bool.{true}
+use mathlib.Core.List.{List}
+use mathlib.Core.Logic.{_⊎_}
+use Prim.Native.Nat.{ℕ, _+_, _*_, _≤_, _<_}
+use Rattle.arbiter.specs.declared.table.Requestor.{Requestor}
+use Rattle.arbiter.specs.declared.state.Arbiter.{Arbiter}
+use Rattle.arbiter.specs.Table.{places}
+use Rattle.arbiter.specs.Figures.{burstsAbove, rateLeft}
+use Rattle.arbiter.specs.State.{credit, requestorAt, accountAt, sound}
+use Rattle.calls.specs.Calls.{Call}
+use Rattle.guarantees.specs.Counts.{slotsIn, grantsTo, Waits}
+use Rattle.guarantees.specs.Need.{heardFrom, Shaped}
+
+-- Either D × g is at least R × L − B, or R × D × g is more than R × (c + n × L − D) − n × B; each subtraction stands as an
+-- addition on the other side.
+abbrev pub Sharp : (d n R B c L g : ℕ) → Type 0
+Sharp d n R B c L g = (R * L ≤ d * g + B) ⊎ (R * (c + n * L + 1) ≤ R * (d * g + d) + n * B)
+
+-- with the figures of place p
+abbrev pub Sharper : ℕ → List Requestor → ℕ → ℕ → ℕ → ℕ → Type 0
+Sharper d rs p c L g = Sharp d (requestorAt p rs .rate) (rateLeft d p rs) (burstsAbove p rs) c L g
+
+-- from any sound state, for a place that waits in each slot of the stretch
+abbrev pub Sharper-floor : Type 0
+Sharper-floor = (limit : ℕ) (s : Arbiter) → Shaped limit s → sound limit s ≡ true → (inside : List Call) (p : ℕ)
+    → p < s .table .count → Waits p s inside
+    → Sharper (s .table .denominator) (places (s .table)) p (credit (accountAt p (s .accounts)))
+        (slotsIn (heardFrom limit s inside)) (grantsTo p (heardFrom limit s inside))

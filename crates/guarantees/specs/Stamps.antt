@@ -1,0 +1,36 @@
+-- "The stamp is the present slot number, and the slot number rises by 1": the accepted slots of a list are stamped first,
+-- first + 1, first + 2, .. No two share a stamp, and refused calls use none up.
+use mathlib.Core.Path.{_≡_}
+use mathlib.Core.List.{List, [], _∷_}
+use Prim.Native.Nat.{ℕ, zero, suc, _+_, _<_}
+use lib.ListN.{length, getD}
+use Rattle.lists.specs.Runs
+use Rattle.arbiter.specs.declared.table.Table.{Table}
+use Rattle.arbiter.specs.Answers.{Answer, accepted, granted, idle, refused}
+use Rattle.calls.specs.Calls.{Call, called}
+use Rattle.guarantees.specs.Counts.{slotsIn, Accepted, opened}
+
+-- the stamps in the answers, in order
+unfoldable pub stampsIn : List Answer → List ℕ
+stampsIn [] = []
+stampsIn (accepted ∷ heard) = stampsIn heard
+stampsIn (granted stamp p ∷ heard) = stamp ∷ stampsIn heard
+stampsIn (idle stamp ∷ heard) = stamp ∷ stampsIn heard
+stampsIn (refused r ∷ heard) = stampsIn heard
+
+-- n numbers from first on
+unfoldable pub countedFrom : ℕ → ℕ → List ℕ
+countedFrom first zero = []
+countedFrom first (suc n) = first ∷ countedFrom (first + 1) n
+
+abbrev pub Stamps : Type 0
+Stamps = (limit : ℕ) (t : Table) (first : ℕ) → Accepted limit t first → (calls : List Call)
+    → stampsIn (Runs.answers (called limit) (opened limit t first) calls)
+      ≡ countedFrom first (slotsIn (Runs.answers (called limit) (opened limit t first) calls))
+
+-- so no two accepted slots share a stamp
+abbrev pub Distinct-stamps : Type 0
+Distinct-stamps = (limit : ℕ) (t : Table) (first : ℕ) → Accepted limit t first → (calls : List Call) (i j : ℕ)
+    → i < j → j < length (stampsIn (Runs.answers (called limit) (opened limit t first) calls))
+    → getD (stampsIn (Runs.answers (called limit) (opened limit t first) calls)) i 0
+      ≡ getD (stampsIn (Runs.answers (called limit) (opened limit t first) calls)) j 0 → ⊥
