@@ -7,6 +7,8 @@ use arbiter::state::Account;
 use arbiter::state::Arbiter;
 ghost use mathlib.Core.Path.{_≡_};
 ghost use Rattle.arbiter.specs.Limits.{maxPlaces};
+ghost use Rattle.arbiter.specs.Refusals.{refusalOf};
+ghost use Rattle.arbiter.specs.Answers.{refused};
 ghost use Rattle.calls.specs.Calls.{post, called, postedOf};
 
 pub enum PostAnswer {
@@ -19,23 +21,30 @@ pub struct Posted {
     pub answer: PostAnswer,
 }
 
+// The state handed in, and why.
+fn refuse(s: Arbiter, why: Cause) -> Posted
+    ensures { λ r. ⌜ postedOf r ≡ record { state = s; answer = refused (refusalOf why) } ⌝ }
+{
+    Posted { state: s, answer: PostAnswer::Refused(why) }
+}
+
 // Refused: 23, 11, 21.
 pub fn post(s: Arbiter, place: usize, count: Transfers) -> Posted
     ensures { λ r. ⌜ postedOf r ≡ called maxPlaces s (post place (count .0)) ⌝ }
 {
     if !s.is_sound() {
-        return Posted { state: s, answer: PostAnswer::Refused(Cause::State(StateRefusal::Unsound)) };
+        return refuse(s, Cause::State(StateRefusal::Unsound));
     }
     let t = s.table;
     let n = t.count;
     if n <= place {
-        return Posted { state: s, answer: PostAnswer::Refused(Cause::Input(InputRefusal::NoSuchPlace)) };
+        return refuse(s, Cause::Input(InputRefusal::NoSuchPlace));
     }
     let a = s.accounts[place];
     let q = a.backlog;
     // what is free, since the sum of any count and the backlog may not fit
     if Arbiter::MAX_BACKLOG - q.0 < count.0 {
-        return Posted { state: s, answer: PostAnswer::Refused(Cause::State(StateRefusal::BacklogLimit)) };
+        return refuse(s, Cause::State(StateRefusal::BacklogLimit));
     }
     let mut next = s;
     next.accounts[place] = Account { credit: a.credit, backlog: Transfers(q.0 + count.0) };

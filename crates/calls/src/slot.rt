@@ -10,6 +10,8 @@ ghost use mathlib.Core.Path.{_≡_};
 ghost use mathlib.Core.Bool.{true};
 ghost use Prim.Native.Nat.{_+_, _<_, _^_};
 ghost use Rattle.arbiter.specs.Limits.{maxPlaces, maxSlot};
+ghost use Rattle.arbiter.specs.Refusals.{refusalOf};
+ghost use Rattle.arbiter.specs.Answers.{refused};
 ghost use Rattle.arbiter.specs.State.{sound};
 ghost use Rattle.calls.specs.Rule.{eligible, served, passed};
 ghost use Rattle.calls.specs.Places.{names, accountAfter};
@@ -36,11 +38,13 @@ fn is_eligible(d: u32, r: Requestor, a: Account) -> bool
     requires { ⌜ a .credit + r .rate < 2 ^ 32 ⌝ }
     ensures { λ b. ⌜ b ≡ eligible d r a ⌝ }
 {
+    let credit = a.credit;
+    let raised = credit + r.rate;
     let q = a.backlog;
     if q.0 == 0 {
         return false;
     }
-    d <= a.credit + r.rate
+    d <= raised
 }
 
 // The first eligible place, or nobody.
@@ -141,16 +145,23 @@ fn carry_out(s: Arbiter) -> Slotted
     }
 }
 
+// The state handed in, and why.
+fn refuse(s: Arbiter, why: StateRefusal) -> Slotted
+    ensures { λ r. ⌜ slottedOf r ≡ record { state = s; answer = refused (refusalOf (Cause.State why)) } ⌝ }
+{
+    Slotted { state: s, answer: SlotAnswer::Refused(Cause::State(why)) }
+}
+
 // Refused: 23, 22.
 pub fn slot(s: Arbiter) -> Slotted
     ensures { λ r. ⌜ slottedOf r ≡ called maxPlaces s slot ⌝ }
 {
     if !s.is_sound() {
-        return Slotted { state: s, answer: SlotAnswer::Refused(Cause::State(StateRefusal::Unsound)) };
+        return refuse(s, StateRefusal::Unsound);
     }
     let at = s.slot;
     if Arbiter::MAX_SLOT <= at.0 {
-        return Slotted { state: s, answer: SlotAnswer::Refused(Cause::State(StateRefusal::SlotLimit)) };
+        return refuse(s, StateRefusal::SlotLimit);
     }
     carry_out(s)
 }

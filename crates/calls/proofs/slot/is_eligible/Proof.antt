@@ -5,17 +5,17 @@ use Rattle.calls.proofs.slot.is_eligible.Tie as tie
 use Rattle.calls.proofs.slot.is_eligible.Reads as reads
 use Rattle.calls.proofs.slot.is_eligible.Lts as lts
 
--- src/slot.rt:41:9
+-- src/slot.rt:42:18
+add-raised : tie.Need-add-raised
+add-raised c = search needs
+
+-- src/slot.rt:45:9
 returns : tie.Need-returns
-returns c = let a = (c .before .before .before) .args in eligible-idle (a .r) (a .a) (a .d) (c .if1 .taken)
+returns c = let a = (c .before .before .before .before) .args in eligible-idle (a .r) (a .a) (a .d) (c .if1 .taken)
 
--- src/slot.rt:43:10
-add-result : tie.Need-add-result
-add-result c = search needs
-
--- src/slot.rt:35:1
+-- src/slot.rt:37:1
 returns-2 : tie.Need-returns-2
-returns-2 c = let a = (c .before .before .before .before .before) .args in eligible-waiting (a .r) (a .a) (a .d) (c .before .before .if1 .left)
+returns-2 c = let a = (c .before .before .before .before) .args in eligible-waiting (a .r) (a .a) (a .d) (c .if1 .left)
 
 pub is-eligible-spec : {M : Type 1} → statement M
-is-eligible-spec = tie.close (tie.spec returns add-result returns-2)
+is-eligible-spec = tie.close (tie.spec add-raised returns returns-2)
