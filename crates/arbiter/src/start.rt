@@ -9,7 +9,9 @@ use crate::state::Arbiter;
 ghost use mathlib.Core.Path.{_≡_};
 ghost use mathlib.Core.List.{map};
 ghost use Rattle.arbiter.specs.Limits.{maxPlaces};
-ghost use Rattle.arbiter.specs.Start.{fresh, noState};
+ghost use Rattle.arbiter.specs.Refusals.{refusalOf};
+ghost use Rattle.arbiter.specs.Answers.{refused};
+ghost use Rattle.arbiter.specs.Start.{fresh, noState, resultOf};
 
 pub enum StartAnswer {
     Started,
@@ -37,7 +39,7 @@ pub(crate) fn opening_accounts(t: Table) -> [Account; Arbiter::MAX_PLACES]
 }
 
 // The state whose every field is 0.
-pub(crate) fn no_state() -> Arbiter
+fn no_state() -> Arbiter
     ensures { λ r. ⌜ r ≡ noState maxPlaces ⌝ }
 {
     let row = Requestor { rate: 0, burst: 0, need: Transfers(0), within: Slots(0) };
@@ -45,4 +47,11 @@ pub(crate) fn no_state() -> Arbiter
     let rows = [row; Arbiter::MAX_PLACES];
     let table = Table { denominator: 0, count: 0, requestors: rows };
     Arbiter { table: table, slot: Slots(0), accounts: [empty; Arbiter::MAX_PLACES] }
+}
+
+// A state whose every field is 0, and why.
+pub(crate) fn refuse(why: Cause) -> Started
+    ensures { λ r. ⌜ resultOf r ≡ record { state = noState maxPlaces; answer = refused (refusalOf why) } ⌝ }
+{
+    Started { state: no_state(), answer: StartAnswer::Refused(why) }
 }

@@ -10,7 +10,7 @@ use crate::admission::admit;
 use crate::start::Started;
 use crate::start::StartAnswer;
 use crate::start::opening_accounts;
-use crate::start::no_state;
+use crate::start::refuse;
 ghost use mathlib.Core.Path.{_≡_};
 ghost use mathlib.Core.Bool.{_&&_};
 ghost use Prim.Native.Nat.{_≤_};
@@ -138,10 +138,10 @@ impl Arbiter {
     {
         let v = admit(t);
         match v {
-            Verdict::Fault(c) => Started { state: no_state(), answer: StartAnswer::Refused(c) },
+            Verdict::Fault(c) => refuse(c),
             Verdict::Faultless => {
                 if Arbiter::MAX_SLOT < first.0 {
-                    return Started { state: no_state(), answer: StartAnswer::Refused(Cause::Input(InputRefusal::FirstSlot)) };
+                    return refuse(Cause::Input(InputRefusal::FirstSlot));
                 }
                 let accounts = opening_accounts(t);
                 Started { state: Arbiter { table: t, slot: first, accounts: accounts }, answer: StartAnswer::Started }

@@ -1,7 +1,4 @@
-use mathlib.Core.Path.{_≡_, refl, ap, sym, _∙_}
-use Prim.Native.Nat.{ℕ, _+_, _-_, _≤_, _<_}
-use native.Mathlib.Omega.{arith}
-use lib.ListN.{length, length-map, take, drop}
+use mathlib.Core.Path.{_≡_, refl}
 use borrow.Author.Tests.{le-leb, lt-leb}
 use Rattle.arbiter.specs.Refusals.{gate, then}
 use Rattle.arbiter.specs.Start.{opening, startVerdict, start}
@@ -11,8 +8,8 @@ use Rattle.arbiter.proofs.state.Arbiter.start.Tie as tie
 use Rattle.arbiter.proofs.state.Arbiter.start.Reads as reads
 use Rattle.arbiter.proofs.state.Arbiter.start.Lts as lts
 use Rattle.arbiter.proofs.admission.admit.Reads as admit-reads
-use Rattle.arbiter.proofs.start.no_state.Reads as no-state-reads
 use Rattle.arbiter.proofs.start.opening_accounts.Reads as opening-accounts-reads
+use Rattle.arbiter.proofs.start.refuse.Reads as refuse-reads
 
 -- src/state.rt:139:13
 admit-requires : tie.Need-admit-requires
@@ -22,22 +19,22 @@ admit-requires c κs = search needs
 enum-known-v : tie.Need-enum-known-v
 enum-known-v c = search needs
 
--- src/state.rt:141:51
-no-state-requires : tie.Need-no-state-requires
-no-state-requires c κs = search needs
+-- src/state.rt:141:34
+refuse-requires : tie.Need-refuse-requires
+refuse-requires c κs = search needs
 
 -- src/state.rt:143:20
 enum-told : tie.Need-enum-told
 enum-told c = search needs
 
--- src/state.rt:144:45
-no-state-requires-2 : tie.Need-no-state-requires-2
-no-state-requires-2 c κs = search needs
+-- src/state.rt:144:21
+refuse-requires-2 : tie.Need-refuse-requires-2
+refuse-requires-2 c κs = search needs
 
 -- src/state.rt:144:21
 returns : tie.Need-returns
 unfolding start startVerdict opening gate then
-returns c = rw (← c .before .before .before .before .before .admit .ensures, c .before .before .before .enum-told .given .1, lt-leb _ _ (c .before .if1 .taken), c .no-state2 .ensures)
+returns c = rw (← c .before .before .before .before .before .admit .ensures, c .before .before .before .enum-told .given .1, lt-leb _ _ (c .before .if1 .taken)) (c .refuse2 .ensures)
 
 -- src/state.rt:146:21
 opening-accounts-requires : tie.Need-opening-accounts-requires
@@ -46,7 +43,7 @@ opening-accounts-requires c κs = search needs
 -- src/state.rt:136:5
 returns-2 : tie.Need-returns-2
 unfolding start startVerdict opening gate then
-returns-2 c = rw (← c .before .before .before .before .admit .ensures, c .before .before .v .given .1, c .no-state .ensures)
+returns-2 c = rw (← c .before .before .before .before .admit .ensures, c .before .before .v .given .1) (c .refuse .ensures)
 
 -- src/state.rt:136:5
 returns-3 : tie.Need-returns-3
@@ -59,9 +56,9 @@ start-spec =
     (tie.spec
     admit-requires
     enum-known-v
-    no-state-requires
+    refuse-requires
     enum-told
-    no-state-requires-2
+    refuse-requires-2
     returns
     opening-accounts-requires
     returns-2
