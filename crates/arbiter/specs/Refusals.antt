@@ -67,6 +67,10 @@ refusalOf (cause.State s) = record { number = stateNumber s; place = named.Nowhe
 abbrev pub originOf : ℕ → Origin
 originOf n = pick (inRange 21 29 n) origin.State origin.Input
 
+-- so a cause is the state's exactly when its number is 21 to 29
+abbrev pub Cause-by-number : Type 0
+Cause-by-number = (c : Cause) → refusalOf c .origin ≡ originOf (refusalOf c .number)
+
 -- the refusal with number n, and the one that names place p
 abbrev pub refusal : ℕ → Refusal
 refusal n = record { number = n; place = named.Nowhere; origin = originOf n }

@@ -2,3 +2,4 @@ pub mod Accounts
 pub mod Search
 pub mod Updates
 pub mod Room
+pub mod Replays

@@ -2,3 +2,4 @@
 pub mod Rule
 pub mod Places
 pub mod Calls
+pub mod Replay

@@ -2,3 +2,4 @@
 
 pub mod post;
 pub mod slot;
+pub mod replay;

@@ -1,12 +1,13 @@
--- A list ys of which the first i elements have been overwritten by those of xs. Assumes nothing.
-use mathlib.Core.Path.{_≡_, refl, ap}
+-- A list ys of which the first i elements have been overwritten by those of xs, and an old list that has others written over
+-- its front. Assumes nothing.
+use mathlib.Core.Path.{_≡_, refl, ap, _∙_}
 use mathlib.Core.List.{List, [], _∷_, _++_, append-nil}
 use Prim.Native.Nat.{ℕ, zero, suc, _+_, _≤_, _<_}
 use native.Mathlib.Nat.{not-suc-le-zero}
 use native.Mathlib.Numerals.{add-one}
 use native.Mathlib.Omega.{arith}
-use lib.ListN.{length, getD, take, drop, set, drop-of-length-le}
-use lib.Seq.{take-all}
+use lib.ListN.{length, getD, take, drop, set, drop-of-length-le, length-append, length-drop}
+use lib.Seq.{take-all, take-at, drop-append-add, drop-drop, sets, sets-eq}
 
 module _ {A : Type 0} (z : A) where
   overwrite-next : (xs ys : List A) (i : ℕ) → i < length xs → i < length ys → set (take i xs ++ drop i ys) i (getD xs i z) ≡ take (suc i) xs ++ drop (suc i) ys
@@ -23,3 +24,11 @@ module _ {A : Type 0} (z : A) where
   -- all of them
   pub overwrite-all : (xs ys : List A) (i : ℕ) → length xs ≤ i → length ys ≤ i → take i xs ++ drop i ys ≡ xs
   overwrite-all xs ys i h k = rw (take-all i xs h, drop-of-length-le ys k) (append-nil xs)
+
+-- Some more elements, stored one after the other behind those that stand in front of an old list.
+pub stored-behind : {A : Type 0} (front old more : List A) (k : ℕ) → length front ≡ k → k + length more ≤ length old
+    → sets (front ++ drop (length front) old) k more ≡ (front ++ more) ++ drop (length (front ++ more)) old
+stored-behind front old more k e h =
+    let whole : k + length more ≤ length (front ++ drop (length front) old) = simp (length-append, length-drop) (omega arith) in
+    sets-eq more (front ++ drop (length front) old) k whole
+    ∙ rw (take-at front (drop (length front) old) k e, ← e, drop-append-add front (drop (length front) old) (length more), drop-drop (length more) (length front) old, length-append front more)

@@ -1,10 +1,12 @@
--- Laws on lists of calls over any state: what every call keeps, two steps that agree, and counts along the calls.
+-- Laws on lists of calls over any state: what every call keeps, one call more at the end, two steps that agree, and counts
+-- along the calls.
 -- Assumes nothing.
 use mathlib.Core.Path.{_≡_, refl, ap}
-use mathlib.Core.List.{List, [], _∷_}
-use Prim.Native.Nat.{ℕ, _+_}
+use mathlib.Core.List.{List, [], _∷_, _++_}
+use Prim.Native.Nat.{ℕ, suc, _+_}
 use native.Mathlib.Omega.{arith}
 use native.Mathlib.Nat.{zero-add}
+use lib.ListN.{length}
 use Rattle.lists.specs.Sums.{total}
 use Rattle.lists.specs.Runs.{Result, end, answers, Each}
 
@@ -17,6 +19,24 @@ module _ {S C A : Type 0} (step : S → C → Result S A) where
   unfolding end
   keeps P kept s [] p = p
   keeps P kept s (c ∷ calls) p = keeps P kept (step s c .state) calls (kept s c p)
+
+  -- one call more at the end: it gets the state that the others handed back
+  pub end-more : (s : S) (calls : List C) (c : C) → end step s (calls ++ (c ∷ [])) ≡ step (end step s calls) c .state
+  unfolding end
+  end-more s [] c = refl
+  end-more s (b ∷ calls) c = end-more (step s b .state) calls c
+
+  -- and its answer is the last
+  pub answers-more : (s : S) (calls : List C) (c : C) → answers step s (calls ++ (c ∷ [])) ≡ answers step s calls ++ (step (end step s calls) c .answer ∷ [])
+  unfolding end answers
+  answers-more s [] c = refl
+  answers-more s (b ∷ calls) c = ap (λ heard. step s b .answer ∷ heard) (answers-more (step s b .state) calls c)
+
+  -- an answer to each call
+  pub length-answers : (s : S) (calls : List C) → length (answers step s calls) ≡ length calls
+  unfolding answers
+  length-answers s [] = refl
+  length-answers s (c ∷ calls) = ap suc (length-answers (step s c .state) calls)
 
   -- a condition that always holds, holds along the calls
   pub each : (s : S) (calls : List C) → Each step (λ s a. Unit {0}) s calls

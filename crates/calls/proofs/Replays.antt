@@ -1,0 +1,244 @@
+-- A list of calls made one after the other from numbers: which call comes next, where its answer goes, and that a refused call
+-- names no place. Assumes nothing.
+use mathlib.Core.Path.{_≡_, refl, ap, sym, _∙_}
+use mathlib.Core.Bool.{Bool, true, false}
+use mathlib.Core.List.{List, [], _∷_, _++_, append-nil, append-assoc}
+use Prim.Native.Nat.{ℕ, zero, suc, _+_, _*_, _/_, _^_, _≤_, _<_, min}
+use native.Mathlib.Numerals.{add-one}
+use native.Mathlib.Omega.{arith}
+use borrow.Author.Tests.{leb-true, leb-false}
+use lib.Dec.{leb}
+use lib.ListN.{length, getD, set, take, length-append, length-set}
+use lib.Seq.{take-suc, take-all, length-take-le}
+use Rattle.lists.specs.Choices.{cases}
+use Rattle.lists.specs.Runs.{Result, end, answers}
+use Rattle.lists.proofs.Runs.{end-more, answers-more, length-answers}
+use Rattle.lists.proofs.Overwriting.{stored-behind}
+use Rattle.arbiter.specs.declared.refusals.Cause.{Cause}
+use Rattle.arbiter.specs.declared.refusals.Refusal.{Refusal}
+use Rattle.arbiter.specs.declared.refusals.Named.the-variants as named
+use Rattle.arbiter.specs.declared.table.Table.{Table}
+use Rattle.arbiter.specs.declared.state.Arbiter.{Arbiter}
+use Rattle.arbiter.specs.declared.start.StartAnswer.the-variants as start-answer
+use Rattle.arbiter.specs.declared.start.Started.{Started}
+use Rattle.arbiter.specs.Refusals.{Verdict, faultless, fault, refusal, gate}
+use Rattle.arbiter.specs.State.{sound}
+use Rattle.arbiter.specs.Answers.{Answer, accepted, granted, idle, refused}
+use Rattle.arbiter.specs.Start.{resultOf, start}
+use Rattle.calls.specs.declared.slot.Grant.{Grant}
+use Rattle.calls.specs.declared.slot.Grant.the-variants.{Nobody, Place}
+use Rattle.calls.specs.declared.replay.Words.{Words}
+use Rattle.calls.specs.declared.replay.Made.{Made}
+use Rattle.calls.specs.Calls.{Call, post, slot, grantOf, slotAnswer, done, ruleVerdict, outcome, called}
+use Rattle.calls.specs.Replay.{callOf, callsOf, madeCalls, placeWord, answerWords, wordsOf, writtenOver, afterCalls, run, continued, replay, replayedOf, listed, Makes}
+
+-- ---- a refused call names no place
+
+-- a fault that names no place
+abbrev Unplaced : Verdict → Type 0
+Unplaced faultless = Unit {0}
+Unplaced (fault r) = r .place ≡ named.Nowhere
+
+-- a check that names no place, in front of others that name none
+gate-unplaced : (n : ℕ) (test : Bool) (rest : Verdict) → Unplaced rest → Unplaced (gate (refusal n) test rest)
+unfolding gate
+gate-unplaced n true rest u = u
+gate-unplaced n false rest u = refl
+
+-- what a slot that is carried out answers is no refusal
+slot-not-refused : (stamp : ℕ) (g : Grant) (r : Refusal) → refused r ≡ slotAnswer stamp g → ⊥
+slot-not-refused stamp Nobody r e = let z : _≡_ {A = ℕ} 0 1 = cc in omega arith
+slot-not-refused stamp (Place p) r e = let z : _≡_ {A = ℕ} 0 1 = cc in omega arith
+
+-- nor is what any call that is carried out answers
+done-not-refused : (s : Arbiter) (c : Call) (r : Refusal) → refused r ≡ done s c .answer → ⊥
+unfolding done
+done-not-refused s (post p count) r e = let z : _≡_ {A = ℕ} 0 1 = cc in omega arith
+done-not-refused s slot r e = slot-not-refused (s .slot .0) (grantOf s) r e
+
+-- so a refusal comes from the verdict
+outcome-unplaced : (v : Verdict) (s : Arbiter) (c : Call) (r : Refusal) → Unplaced v → refused r ≡ outcome v s c .answer → r .place ≡ named.Nowhere
+outcome-unplaced faultless s c r u e = absurd (done-not-refused s c r e)
+outcome-unplaced (fault q) s c r u e = let same : r ≡ q = cc in rw same u
+
+-- 11, 21 and 22 name no place
+rule-unplaced : (s : Arbiter) (c : Call) → Unplaced (ruleVerdict s c)
+unfolding ruleVerdict
+rule-unplaced s (post p count) = gate-unplaced 11 _ _ (gate-unplaced 21 _ faultless tt)
+rule-unplaced s slot = gate-unplaced 22 _ faultless tt
+
+-- and neither does 23, in front of them
+called-unplaced : (limit : ℕ) (s : Arbiter) (c : Call) (r : Refusal) → refused r ≡ called limit s c .answer → r .place ≡ named.Nowhere
+unfolding called
+called-unplaced limit s c r e =
+    outcome-unplaced (gate (refusal 23) (sound limit s) (ruleVerdict s c)) s c r
+    (gate-unplaced 23 (sound limit s) (ruleVerdict s c) (rule-unplaced s c)) e
+
+-- so the number that tells the place of a refused call is 0, and fits
+pub refused-place-fits : (limit : ℕ) (s next : Arbiter) (c : Call) (r : Refusal) → _≡_ {A = Result Arbiter Answer} (record { state = next; answer = refused r }) (called limit s c)
+    → placeWord (r .place) < 2 ^ 64
+unfolding placeWord
+refused-place-fits limit s next c r e = rw (called-unplaced limit s c r (ap (λ (x : Result Arbiter Answer). x .answer) e)) (omega arith)
+
+-- ---- one call
+
+-- a call whose answer is told by these three numbers
+pub makes : (next : Arbiter) (w : Words) (a : Answer) (r : Result Arbiter Answer) → _≡_ {A = Result Arbiter Answer} (record { state = next; answer = a }) r
+    → listed w ≡ answerWords a → Makes (record { state = next; words = w }) r
+makes next w a r e f = record {
+    state = ap (λ (x : Result Arbiter Answer). x .state) e;
+    words = f ∙ ap (λ (x : Result Arbiter Answer). answerWords (x .answer)) e }
+
+-- a number other than 0 is a post
+pub call-post : (what place count : ℕ) → (what ≡ 0 → ⊥) → callOf what place count ≡ post place count
+unfolding callOf
+call-post zero place count h = absurd (h refl)
+call-post (suc what) place count h = refl
+
+-- ---- the calls in a list of numbers
+
+-- three numbers to a call
+length-calls : (calls : List ℕ) → length (callsOf calls) ≡ length calls / 3
+unfolding callsOf
+length-calls [] = omega arith
+length-calls (what ∷ []) = omega arith
+length-calls (what ∷ place ∷ []) = omega arith
+length-calls (what ∷ place ∷ count ∷ calls) = omega (arith, length-calls calls)
+
+-- call i stands at 3 * i and the two places after it
+call-at : (calls : List ℕ) (i at : ℕ) → at ≡ 3 * i → at + 2 < length calls
+    → getD (callsOf calls) i slot ≡ callOf (getD calls at 0) (getD calls (at + 1) 0) (getD calls (at + 2) 0)
+unfolding callsOf
+call-at [] i at e h = absurd (omega arith)
+call-at (what ∷ []) i at e h = absurd (omega arith)
+call-at (what ∷ place ∷ []) i at e h = absurd (omega arith)
+call-at (what ∷ place ∷ count ∷ calls) zero at e h = let none : at ≡ 0 = omega arith in rw none
+call-at (what ∷ place ∷ count ∷ calls) (suc i) at e h =
+    let here : at ≡ suc (suc (suc (3 * i))) = omega arith in
+    let next : at + 1 ≡ suc (suc (suc (3 * i + 1))) = omega arith in
+    let last : at + 2 ≡ suc (suc (suc (3 * i + 2))) = omega arith in
+    rw (next, last, here) (call-at calls i (3 * i) refl (omega arith))
+
+-- the first i + 1 calls are the first i and the one at 3 * i
+one-more-call : (calls : List ℕ) (i : ℕ) → 3 * i + 2 < length calls
+    → take (i + 1) (callsOf calls) ≡ take i (callsOf calls) ++ (callOf (getD calls (3 * i) 0) (getD calls (3 * i + 1) 0) (getD calls (3 * i + 2) 0) ∷ [])
+one-more-call calls i h =
+    let inside : i < length (callsOf calls) = omega (arith, length-calls calls) in
+    rw (add-one i, ← call-at calls i (3 * i) refl h) (take-suc (callsOf calls) i slot inside)
+
+-- as many calls as there are, or as there is room for, are the calls made
+pub all-made : (calls old : List ℕ) (n : ℕ) → n ≡ min (length calls / 3) (length old / 3) → take n (callsOf calls) ≡ madeCalls calls old
+unfolding madeCalls
+all-made calls old n e = cases (leb (length calls / 3) (length old / 3))
+    (λ q. let h = leb-true (length calls / 3) (length old / 3) q in
+      take-all n (callsOf calls) (omega (arith, length-calls calls)) ∙ sym (take-all (length old / 3) (callsOf calls) (omega (arith, length-calls calls))))
+    (λ q. let h = leb-false (length calls / 3) (length old / 3) q in
+      let room : n ≡ length old / 3 = omega arith in ap (λ (k : ℕ). take k (callsOf calls)) room)
+
+-- ---- the numbers of the answers
+
+-- three numbers to an answer
+length-answer : (a : Answer) → length (answerWords a) ≡ 3
+unfolding answerWords
+length-answer accepted = refl
+length-answer (granted stamp p) = refl
+length-answer (idle stamp) = refl
+length-answer (refused r) = refl
+
+length-words : (heard : List Answer) → length (wordsOf heard) ≡ 3 * length heard
+unfolding wordsOf
+length-words [] = refl
+length-words (a ∷ heard) = omega (arith, length-append (answerWords a) (wordsOf heard), length-answer a, length-words heard)
+
+-- one answer more at the end
+words-more : (heard : List Answer) (a : Answer) → wordsOf (heard ++ (a ∷ [])) ≡ wordsOf heard ++ answerWords a
+unfolding wordsOf
+words-more [] a = append-nil (answerWords a)
+words-more (b ∷ heard) a = rw (words-more heard a, append-assoc)
+
+-- three numbers stored behind those that are written
+written-more : (words old : List ℕ) (k x y z : ℕ) → length words ≡ k → k + 3 ≤ length old
+    → set (set (set (writtenOver words old) k x) (k + 1) y) (k + 2) z ≡ writtenOver (words ++ (x ∷ y ∷ z ∷ [])) old
+unfolding writtenOver
+written-more words old k x y z e h =
+    let next : k + 1 ≡ suc k = add-one k in
+    let last : k + 2 ≡ suc (suc k) = omega arith in
+    rw (next, last) (stored-behind words old (x ∷ y ∷ z ∷ []) k e h)
+
+-- ---- the loop over the calls
+
+-- Where the loop stands when i calls of n are made from the state s: the state after them, and their answers in the lent list,
+-- which is as long as it was.
+pub record Standing (limit : ℕ) (calls old : List ℕ) (s : Arbiter) (n : ℕ) (words : List ℕ) (state : Arbiter) (i : ℕ) : Type 0 where
+  pub within : i ≤ n
+  pub calls-fit : 3 * n ≤ length calls
+  pub answers-fit : 3 * n ≤ length old
+  pub same-length : length words ≡ length old
+  pub after : state ≡ end (called limit) s (take i (callsOf calls))
+  pub written : words ≡ writtenOver (wordsOf (answers (called limit) s (take i (callsOf calls)))) old
+
+module _ (limit : ℕ) (calls old : List ℕ) (s : Arbiter) (n : ℕ) where
+  -- no call is made yet
+  pub standing-first : n ≡ min (length calls / 3) (length old / 3) → Standing limit calls old s n old s 0
+  unfolding end answers wordsOf writtenOver
+  standing-first e = record {
+      within = omega arith;
+      calls-fit = omega arith;
+      answers-fit = omega arith;
+      same-length = refl;
+      after = refl;
+      written = refl }
+
+  -- the numbers of the answers of the first i calls
+  length-so-far : (i : ℕ) → 3 * i ≤ length calls → length (wordsOf (answers (called limit) s (take i (callsOf calls)))) ≡ 3 * i
+  length-so-far i h =
+      let inside : i ≤ length (callsOf calls) = omega (arith, length-calls calls) in
+      let heard = answers (called limit) s (take i (callsOf calls)) in
+      omega (arith, length-words heard, length-answers (called limit) s (take i (callsOf calls)), length-take-le i (callsOf calls) inside)
+
+  -- one call more, on the state that the one before handed back
+  pub standing-more : (words : List ℕ) (state : Arbiter) (i : ℕ) (m : Made) → Standing limit calls old s n words state i → i < n
+      → Makes m (called limit state (callOf (getD calls (3 * i) 0) (getD calls (3 * i + 1) 0) (getD calls (3 * i + 2) 0)))
+      → Standing limit calls old s n (set (set (set words (3 * i) (m .words .0)) (3 * i + 1) (m .words .1)) (3 * i + 2) (m .words .2)) (m .state) (i + 1)
+  standing-more words state i m g h made =
+      let call = callOf (getD calls (3 * i) 0) (getD calls (3 * i + 1) 0) (getD calls (3 * i + 2) 0) in
+      let before = take i (callsOf calls) in
+      let heard = answers (called limit) s before in
+      let bound : 3 * n ≤ length calls = g .calls-fit in
+      let room : 3 * n ≤ length old = g .answers-fit in
+      let next : take (i + 1) (callsOf calls) ≡ before ++ (call ∷ []) = one-more-call calls i (omega arith) in
+      record {
+        within = omega arith;
+        calls-fit = bound;
+        answers-fit = room;
+        same-length = simp length-set (g .same-length);
+        after = made .state ∙ ap (λ (x : Arbiter). called limit x call .state) (g .after) ∙ sym (ap (end (called limit) s) next ∙ end-more (called limit) s before call);
+        written =
+          ap (λ (l : List ℕ). set (set (set l (3 * i) (m .words .0)) (3 * i + 1) (m .words .1)) (3 * i + 2) (m .words .2)) (g .written)
+          ∙ written-more (wordsOf heard) old (3 * i) (m .words .0) (m .words .1) (m .words .2) (length-so-far i (omega arith)) (omega arith)
+          ∙ ap (λ (l : List ℕ). writtenOver (wordsOf heard ++ l) old) (made .words ∙ ap (λ (x : Arbiter). answerWords (called limit x call .answer)) (g .after))
+          ∙ ap (λ (l : List ℕ). writtenOver l old) (sym (words-more heard (called limit (end (called limit) s before) call .answer)))
+          ∙ ap (λ (l : List Answer). writtenOver (wordsOf l) old) (sym (ap (answers (called limit) s) next ∙ answers-more (called limit) s before call)) }
+
+  -- all of them
+  pub standing-last : (words : List ℕ) (state : Arbiter) (i : ℕ) → Standing limit calls old s n words state i → n ≤ i → n ≡ min (length calls / 3) (length old / 3)
+      → afterCalls state words ≡ run limit s calls old
+  unfolding run
+  standing-last words state i g h e =
+      let whole : i ≡ n = omega (arith, g .within) in
+      let all : take i (callsOf calls) ≡ madeCalls calls old = ap (λ (k : ℕ). take k (callsOf calls)) whole ∙ all-made calls old n e in
+      rw (g .after, g .written, all)
+
+-- ---- the start before the calls
+
+module _ (limit : ℕ) (t : Table) (first : ℕ) (calls old : List ℕ) (begun : Started) (e : resultOf begun ≡ start limit t first) where
+  -- nothing follows a refused one
+  pub replay-refused : (c : Cause) → begun .answer ≡ start-answer.Refused c → replayedOf begun old ≡ replay limit t first calls old
+  unfolding replay continued
+  replay-refused c q = rw (← e, q)
+
+  -- the calls follow an accepted one
+  pub replay-started : (state : Arbiter) (words : List ℕ) → begun .answer ≡ start-answer.Started → afterCalls state words ≡ run limit (begun .state) calls old
+      → afterCalls state words ≡ replay limit t first calls old
+  unfolding replay continued
+  replay-started state words q r = rw (← e, q) r

@@ -1,0 +1,56 @@
+use Rattle.arbiter.specs.Limits.{maxPlaces}
+use Rattle.calls.proofs.Replays.{replay-refused, replay-started}
+use borrow.Author.Needs.{needs}
+use Rattle.calls.proofs.replay.replay.Statement.{statement}
+use Rattle.calls.proofs.replay.replay.Tie as tie
+use Rattle.calls.proofs.replay.replay.Reads as reads
+use Rattle.calls.proofs.replay.replay.Lts as lts
+use Rattle.arbiter.proofs.state.Arbiter.start.Reads as start-reads
+use Rattle.calls.proofs.replay.make_calls.Reads as make-calls-reads
+
+-- src/replay.rt:128:9
+start-requires : tie.Need-start-requires
+start-requires c κs = search needs
+
+-- src/replay.rt:132:36
+enum-told : tie.Need-enum-told
+enum-told c = search needs
+
+-- src/replay.rt:133:71
+enum-told-2 : tie.Need-enum-told-2
+enum-told-2 c = search needs
+
+-- src/replay.rt:133:50
+make-calls-requires : tie.Need-make-calls-requires
+make-calls-requires c κs = search needs
+
+-- src/replay.rt:125:1
+returns : tie.Need-returns
+returns c =
+    let a = (c .before .before .before .before .before .before) .args in
+    let begun = c .before .before .before .start in
+    replay-refused maxPlaces (a .t) (a .first .0) (a .calls .now) (a .answers .now) (begun .result) (begun .ensures) _ (c .enum-told .given .1)
+
+-- src/replay.rt:125:1
+same-length : tie.Need-same-length
+same-length c = search needs
+
+-- src/replay.rt:125:1
+returns-2 : tie.Need-returns-2
+returns-2 c =
+    let a = (c .before .before .before .before .before .before .before .before .before .before) .args in
+    let begun = c .before .before .before .before .before .before .before .start in
+    let made = c .before .before .make-calls in
+    replay-started maxPlaces (a .t) (a .first .0) (a .calls .now) (a .answers .now) (begun .result) (begun .ensures) (made .result) _ (c .before .before .before .before .enum-told2 .given .1) (made .ensures)
+
+pub replay-spec : {M : Type 1} → statement M
+replay-spec =
+    tie.close
+    (tie.spec
+    start-requires
+    enum-told
+    enum-told-2
+    make-calls-requires
+    returns
+    same-length
+    returns-2)

@@ -1,0 +1,104 @@
+-- A list of calls, given as numbers, made from a start: each call gets the state that the one before handed back. The calls
+-- are lent three numbers to a call, and each answer is written as three numbers, so that a caller in any language can read
+-- them.
+use mathlib.Core.Path.{_≡_}
+use mathlib.Core.Bool.{Bool, true, false}
+use mathlib.Core.List.{List, [], _∷_, _++_}
+use Prim.Native.Nat.{ℕ, zero, suc, _+_, _/_}
+use lib.ListN.{length, take, drop}
+use Rattle.lists.specs.Choices.{pick}
+use Rattle.lists.specs.Runs.{Result, end, answers}
+use Rattle.arbiter.specs.declared.refusals.Named.{Named}
+use Rattle.arbiter.specs.declared.refusals.Named.the-variants as named
+use Rattle.arbiter.specs.declared.table.Table.{Table}
+use Rattle.arbiter.specs.declared.state.Arbiter.{Arbiter}
+use Rattle.arbiter.specs.declared.start.Started as code-result
+use Rattle.arbiter.specs.Answers.{Answer, accepted, granted, idle, refused}
+use Rattle.arbiter.specs.Start.{answerOf, start}
+use Rattle.calls.specs.declared.replay.Words.{Words}
+use Rattle.calls.specs.declared.replay.Made.{Made}
+use Rattle.calls.specs.Calls.{Call, post, slot, called}
+
+-- a call is three numbers: what it is (0: a slot; anything else: a post), the place, the count; a slot passes over the last two
+unfoldable pub callOf : (what place count : ℕ) → Call
+callOf zero place count = slot
+callOf (suc what) place count = post place count
+
+-- the calls, three numbers to each; one or two numbers left at the end are no call
+unfoldable pub callsOf : List ℕ → List Call
+callsOf [] = []
+callsOf (what ∷ []) = []
+callsOf (what ∷ place ∷ []) = []
+callsOf (what ∷ place ∷ count ∷ calls) = callOf what place count ∷ callsOf calls
+
+-- as many calls are made as the lent list of answers has room for
+unfoldable pub madeCalls : (calls old : List ℕ) → List Call
+madeCalls calls old = take (length old / 3) (callsOf calls)
+
+-- one more than the place that a refusal names, or 0 where it names none
+unfoldable pub placeWord : Named → ℕ
+placeWord named.Nowhere = 0
+placeWord (named.Place p) = p + 1
+
+-- an answer is three numbers, and the first says which answer it is
+unfoldable pub answerWords : Answer → List ℕ
+answerWords accepted = 0 ∷ 0 ∷ 0 ∷ []
+answerWords (granted stamp p) = 1 ∷ stamp ∷ p ∷ []
+answerWords (idle stamp) = 2 ∷ stamp ∷ 0 ∷ []
+answerWords (refused r) = 3 ∷ r .number ∷ placeWord (r .place) ∷ []
+
+-- the numbers of the answers, in order
+unfoldable pub wordsOf : List Answer → List ℕ
+wordsOf [] = []
+wordsOf (a ∷ heard) = answerWords a ++ wordsOf heard
+
+-- a lent list with these numbers in front; what stands behind them is left as it was
+unfoldable pub writtenOver : (words old : List ℕ) → List ℕ
+writtenOver words old = words ++ drop (length words) old
+
+-- what a replay comes to: the state, what the start answered, and the lent answers afterwards
+pub record Replayed : Type 0 where
+  pub state : Arbiter
+  pub answer : Answer
+  pub words : List ℕ
+
+abbrev pub isAccepted : Answer → Bool
+isAccepted accepted = true
+isAccepted (granted stamp p) = false
+isAccepted (idle stamp) = false
+isAccepted (refused r) = false
+
+-- what an accepted start and the calls from it come to, by the state and the numbers after the calls
+abbrev pub afterCalls : Arbiter → (words : List ℕ) → Replayed
+afterCalls s words = record { state = s; answer = accepted; words = words }
+
+-- the calls from a state, each on the state that the one before handed back
+unfoldable pub run : ℕ → Arbiter → (calls old : List ℕ) → Replayed
+run limit s calls old =
+    afterCalls
+    (end (called limit) s (madeCalls calls old))
+    (writtenOver (wordsOf (answers (called limit) s (madeCalls calls old))) old)
+
+-- what follows a start: an accepted one the calls; a refused one nothing, and the lent answers are left as they were
+unfoldable pub continued : ℕ → Result Arbiter Answer → (calls old : List ℕ) → Replayed
+continued limit begun calls old =
+    pick (isAccepted (begun .answer))
+    (run limit (begun .state) calls old)
+    (record { state = begun .state; answer = begun .answer; words = old })
+
+-- a start and the calls from it; `limit` is the largest N
+unfoldable pub replay : ℕ → Table → (first : ℕ) → (calls old : List ℕ) → Replayed
+replay limit t first calls old = continued limit (start limit t first) calls old
+
+-- the code's result and the lent answers in these values
+abbrev pub replayedOf : code-result.Started → (words : List ℕ) → Replayed
+replayedOf r words = record { state = r .state; answer = answerOf (r .answer); words = words }
+
+-- the code's three numbers as a list
+abbrev pub listed : Words → List ℕ
+listed w = w .0 ∷ w .1 ∷ w .2 ∷ []
+
+-- the code made a call: the state that the call hands back, and the numbers of its answer
+pub record Makes (m : Made) (r : Result Arbiter Answer) : Type 0 where
+  pub state : m .state ≡ r .state
+  pub words : listed (m .words) ≡ answerWords (r .answer)

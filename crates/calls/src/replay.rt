@@ -1,0 +1,135 @@
+// A start and a list of calls from it, each on the state that the one before handed back. Calls and answers are plain numbers in
+// lists that the caller lends: there is no heap to keep them on, and every language can lend a list of numbers.
+use arbiter::units::Slots;
+use arbiter::units::Transfers;
+use arbiter::refusals::Cause;
+use arbiter::refusals::Named;
+use arbiter::table::Table;
+use arbiter::start::StartAnswer;
+use arbiter::start::Started;
+use arbiter::state::Arbiter;
+use crate::post::PostAnswer;
+use crate::post::post;
+use crate::slot::SlotAnswer;
+use crate::slot::slot;
+ghost use mathlib.Core.Path.{_≡_};
+ghost use Prim.Native.Nat.{_/_, _<_, _^_, min};
+ghost use Rattle.arbiter.specs.Limits.{maxPlaces};
+ghost use Rattle.arbiter.specs.Refusals.{refusalOf};
+ghost use Rattle.arbiter.specs.Answers.{refused};
+ghost use Rattle.calls.specs.Calls.{post, slot, called};
+ghost use Rattle.calls.specs.Replay.{callOf, placeWord, answerWords, afterCalls, run, replay, replayedOf, listed, Makes};
+
+// An answer as three numbers.
+struct Words(u64, u64, u64);
+
+// What one call came to.
+struct Made {
+    state: Arbiter,
+    words: Words,
+}
+
+// One more than the place, so that 0 can say that there is none. No refusal of a call names a place, so the sum always fits.
+fn place_word(n: Named) -> u64
+    requires { ⌜ placeWord n < 2 ^ 64 ⌝ }
+    ensures { λ r. ⌜ r ≡ placeWord n ⌝ }
+{
+    match n {
+        Named::Nowhere => 0,
+        Named::Place(p) => (p as u64) + 1,
+    }
+}
+
+// The cause is not among the numbers: the refusal's number says whether it was the input or the state.
+fn refusal_words(c: Cause) -> Words
+    requires { ⌜ placeWord (refusalOf c .place) < 2 ^ 64 ⌝ }
+    ensures { λ w. ⌜ listed w ≡ answerWords (refused (refusalOf c)) ⌝ }
+{
+    let r = c.refusal();
+    let n = r.place;
+    Words(3, r.number as u64, place_word(n))
+}
+
+fn make_post(s: Arbiter, place: u32, count: u32) -> Made
+    ensures { λ m. ⌜ Makes m (called maxPlaces s (post place count)) ⌝ }
+{
+    let r = post(s, place as usize, Transfers(count));
+    let next = r.state;
+    let a = r.answer;
+    match a {
+        PostAnswer::Accepted => Made { state: next, words: Words(0, 0, 0) },
+        PostAnswer::Refused(c) => Made { state: next, words: refusal_words(c) },
+    }
+}
+
+fn make_slot(s: Arbiter) -> Made
+    ensures { λ m. ⌜ Makes m (called maxPlaces s slot) ⌝ }
+{
+    let r = slot(s);
+    let next = r.state;
+    let a = r.answer;
+    match a {
+        SlotAnswer::Granted(stamp, p) => Made { state: next, words: Words(1, stamp.0, p as u64) },
+        SlotAnswer::Idle(stamp) => Made { state: next, words: Words(2, stamp.0, 0) },
+        SlotAnswer::Refused(c) => Made { state: next, words: refusal_words(c) },
+    }
+}
+
+fn make_call(s: Arbiter, what: u32, place: u32, count: u32) -> Made
+    ensures { λ m. ⌜ Makes m (called maxPlaces s (callOf what place count)) ⌝ }
+{
+    if what == 0 {
+        make_slot(s)
+    } else {
+        make_post(s, place, count)
+    }
+}
+
+// How many calls there are and room for their answers, three numbers to each.
+fn calls_with_room(numbers: usize, room: usize) -> usize
+    ensures { λ r. ⌜ r ≡ min (numbers / 3) (room / 3) ⌝ }
+{
+    let calls = numbers / 3;
+    let answers = room / 3;
+    if calls <= answers {
+        return calls;
+    }
+    answers
+}
+
+// Every call that its answer has room for. A loop and no recursion: a list may be long, and each turn would keep a state.
+fn make_calls(s: Arbiter, calls: &[u32], answers: &mut [u64]) -> Arbiter
+    ensures { λ r. ⌜ afterCalls r (now (answers .exit)) ≡ run maxPlaces s (now (calls .entry)) (now (answers .entry)) ⌝ }
+{
+    let n = calls_with_room(calls.len(), answers.len());
+    let mut state = s;
+    let mut i: usize = 0;
+    while i < n {
+        let at = 3 * i;
+        let made = make_call(state, calls[at], calls[at + 1], calls[at + 2]);
+        let w = made.words;
+        answers[at] = w.0;
+        answers[at + 1] = w.1;
+        answers[at + 2] = w.2;
+        let next = made.state;
+        state = next;
+        i = i + 1;
+    }
+    state
+}
+
+// A start, and the calls from it, as many as their answers have room for. The state handed back is the one after the calls, and
+// the answer is the start's; a refused start makes no call and writes nothing. A call is three numbers: 0 for a slot or any
+// other for a post, the place, and the count. An answer is three numbers: 0, 0, 0 for accepted; 1, the stamp and the place for
+// granted; 2, the stamp and 0 for idle; 3, the refusal's number and one more than its place, or 0 where it names none.
+pub fn replay(t: Table, first: Slots, calls: &[u32], answers: &mut [u64]) -> Started
+    ensures { λ r. ⌜ replayedOf r (now (answers .exit)) ≡ replay maxPlaces t (first .0) (now (calls .entry)) (now (answers .entry)) ⌝ }
+{
+    let begun = Arbiter::start(t, first);
+    let s = begun.state;
+    let a = begun.answer;
+    match a {
+        StartAnswer::Refused(_) => begun,
+        StartAnswer::Started => Started { state: make_calls(s, calls, answers), answer: StartAnswer::Started },
+    }
+}
