@@ -2,4 +2,3 @@ pub mod Accounts
 pub mod Search
 pub mod Updates
 pub mod Room
-pub mod Replays

@@ -2,4 +2,3 @@
 pub mod Rule
 pub mod Places
 pub mod Calls
-pub mod Replay

@@ -1,5 +1,4 @@
-// What calls do to the arbiter's state: post and slot, and a list of them folded from a start.
+// What calls do to the arbiter's state: post and slot.
 
 pub mod post;
 pub mod slot;
-pub mod replay;

@@ -1,46 +1,46 @@
 use mathlib.Core.Path.{refl}
 use Rattle.arbiter.specs.Limits.{maxPlaces}
-use Rattle.calls.specs.Replay.{answerWords}
-use Rattle.calls.proofs.Replays.{refused-place-fits, makes}
+use Rattle.replay.specs.Replay.{answerWords}
+use Rattle.replay.proofs.Replays.{refused-place-fits, makes}
 use borrow.Author.Needs.{needs}
-use Rattle.calls.proofs.replay.make_slot.Statement.{statement}
-use Rattle.calls.proofs.replay.make_slot.Tie as tie
-use Rattle.calls.proofs.replay.make_slot.Reads as reads
-use Rattle.calls.proofs.replay.make_slot.Lts as lts
-use Rattle.calls.proofs.replay.refusal_words.Reads as refusal-words-reads
+use Rattle.replay.proofs.make_slot.Statement.{statement}
+use Rattle.replay.proofs.make_slot.Tie as tie
+use Rattle.replay.proofs.make_slot.Reads as reads
+use Rattle.replay.proofs.make_slot.Lts as lts
+use Rattle.replay.proofs.refusal_words.Reads as refusal-words-reads
 use Rattle.calls.proofs.slot.slot.Reads as slot-reads
 
--- src/replay.rt:68:9
+-- src/lib.rt:68:9
 slot-requires : tie.Need-slot-requires
 slot-requires c κs = search needs
 
--- src/replay.rt:72:29
+-- src/lib.rt:72:29
 enum-known-a : tie.Need-enum-known-a
 enum-known-a c = search needs
 
--- src/replay.rt:73:26
+-- src/lib.rt:73:26
 enum-known-a-2 : tie.Need-enum-known-a-2
 enum-known-a-2 c = search needs
 
--- src/replay.rt:74:29
+-- src/lib.rt:74:29
 enum-known-a-3 : tie.Need-enum-known-a-3
 enum-known-a-3 c = search needs
 
--- src/replay.rt:74:62
+-- src/lib.rt:74:62
 refusal-words-requires : tie.Need-refusal-words-requires
 refusal-words-requires c κs = refused-place-fits maxPlaces _ _ _ _ (rw (c .before .a3 .given .1) at (c .before .before .before .before .slot .ensures))
 
--- src/replay.rt:65:1
+-- src/lib.rt:65:1
 returns : tie.Need-returns
 unfolding answerWords
 returns c = makes _ _ _ _ (rw (c .before .a .given .1) at (c .before .before .before .before .slot .ensures)) refl
 
--- src/replay.rt:65:1
+-- src/lib.rt:65:1
 returns-2 : tie.Need-returns-2
 unfolding answerWords
 returns-2 c = makes _ _ _ _ (rw (c .before .a2 .given .1) at (c .before .before .before .before .slot .ensures)) refl
 
--- src/replay.rt:65:1
+-- src/lib.rt:65:1
 returns-3 : tie.Need-returns-3
 returns-3 c = makes _ _ _ _ (rw (c .before .before .a3 .given .1) at (c .before .before .before .before .before .slot .ensures)) (c .refusal-words .ensures)
 

@@ -25,12 +25,12 @@ use Rattle.arbiter.specs.Refusals.{Verdict, faultless, fault, refusal, gate}
 use Rattle.arbiter.specs.State.{sound}
 use Rattle.arbiter.specs.Answers.{Answer, accepted, granted, idle, refused}
 use Rattle.arbiter.specs.Start.{resultOf, start}
 use Rattle.calls.specs.declared.slot.Grant.{Grant}
 use Rattle.calls.specs.declared.slot.Grant.the-variants.{Nobody, Place}
-use Rattle.calls.specs.declared.replay.Words.{Words}
-use Rattle.calls.specs.declared.replay.Made.{Made}
+use Rattle.replay.specs.declared.Words.{Words}
+use Rattle.replay.specs.declared.Made.{Made}
 use Rattle.calls.specs.Calls.{Call, post, slot, grantOf, slotAnswer, done, ruleVerdict, outcome, called}
-use Rattle.calls.specs.Replay.{callOf, callsOf, madeCalls, placeWord, answerWords, wordsOf, writtenOver, afterCalls, run, continued, replay, replayedOf, listed, Makes}
+use Rattle.replay.specs.Replay.{callOf, callsOf, madeCalls, placeWord, answerWords, wordsOf, writtenOver, afterCalls, run, continued, replay, replayedOf, listed, Makes}
 
 -- ---- a refused call names no place
 

@@ -8,17 +8,17 @@ use arbiter::table::Table;
 use arbiter::start::StartAnswer;
 use arbiter::start::Started;
 use arbiter::state::Arbiter;
-use crate::post::PostAnswer;
-use crate::post::post;
-use crate::slot::SlotAnswer;
-use crate::slot::slot;
+use calls::post::PostAnswer;
+use calls::post::post;
+use calls::slot::SlotAnswer;
+use calls::slot::slot;
 ghost use mathlib.Core.Path.{_≡_};
 ghost use Prim.Native.Nat.{_/_, _<_, _^_, min};
 ghost use Rattle.arbiter.specs.Limits.{maxPlaces};
 ghost use Rattle.arbiter.specs.Refusals.{refusalOf};
 ghost use Rattle.arbiter.specs.Answers.{refused};
 ghost use Rattle.calls.specs.Calls.{post, slot, called};
-ghost use Rattle.calls.specs.Replay.{callOf, placeWord, answerWords, afterCalls, run, replay, replayedOf, listed, Makes};
+ghost use Rattle.replay.specs.Replay.{callOf, placeWord, answerWords, afterCalls, run, replay, replayedOf, listed, Makes};
 
 // An answer as three numbers.
 struct Words(u64, u64, u64);
