@@ -1,20 +1,18 @@
 -- The sums above a place of a table that passes checks 1 to 6: they fit below D, and the place's own rate is left.
 -- Assumes nothing.
-use mathlib.Core.Path.{_≡_, refl, ap, sym}
-use mathlib.Core.List.{List}
-use Prim.Native.Nat.{ℕ, suc, _+_, _-_, _≤_, _<_}
+use mathlib.Core.Path.{_≡_, refl, ap}
+use Prim.Native.Nat.{ℕ, suc, _+_, _≤_, _<_}
 use native.Mathlib.Omega.{arith}
-use lib.ListN.{length, getD, take, length-take}
+use lib.ListN.{length, getD, length-take}
 use lib.Seq.{getD-take, take-take}
 use Rattle.lists.specs.Sums.{total}
 use Rattle.lists.proofs.Sums.{total-take-drop, total-take-suc}
-use Rattle.arbiter.specs.declared.table.Requestor.{Requestor}
 use Rattle.arbiter.specs.declared.table.Table.{Table}
 use Rattle.arbiter.specs.Limits.{maxDenominator}
 use Rattle.arbiter.specs.Refusals.{faultless}
 use Rattle.arbiter.specs.Table.{rate, burst, noRequestor, places, tableVerdict}
 use Rattle.arbiter.specs.Figures.{burstsAbove, ratesAbove}
-use Rattle.arbiter.proofs.Checks.{Fair, fair}
+use Rattle.arbiter.proofs.Checks.{fair}
 
 -- of place p, below N
 pub record Above (limit : ℕ) (t : Table) (p : ℕ) : Type 0 where

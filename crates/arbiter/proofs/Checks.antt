@@ -1,24 +1,21 @@
 -- What checks that find no fault say. Assumes nothing.
-use mathlib.Core.Path.{_≡_, refl, sym, _∙_}
+use mathlib.Core.Path.{_≡_, refl}
 use mathlib.Core.Bool.{Bool, true, false}
 use mathlib.Core.List.{List, [], _∷_}
-use Prim.Native.Nat.{ℕ, zero, suc, _+_, _-_, _≤_, _<_}
+use Prim.Native.Nat.{ℕ, zero, suc, _+_, _≤_, _<_}
 use native.Mathlib.Nat.{not-suc-le-zero, zero-add, add-zero, add-suc, suc-add}
 use native.Mathlib.Omega.{arith}
 use borrow.Author.Tests.{leb-true}
-use lib.Dec.{leb}
-use lib.ListN.{length, getD, take, drop}
-use Rattle.lists.specs.Choices.{inRange}
+use lib.ListN.{length, getD, drop}
 use Rattle.lists.specs.Sums.{total, every}
-use Rattle.lists.proofs.Tests.{true-false, in-range-true}
+use Rattle.lists.proofs.Tests.{in-range-true}
 use Rattle.arbiter.specs.declared.refusals.Refusal.{Refusal}
 use Rattle.arbiter.specs.declared.table.Requestor.{Requestor}
 use Rattle.arbiter.specs.declared.table.Table.{Table}
-use Rattle.arbiter.specs.Limits.{maxDenominator, maxBurst, maxNeed, maxWithin, maxSlot}
-use Rattle.arbiter.specs.Refusals.{Verdict, faultless, fault, refusal, refusalAt, gate, then}
+use Rattle.arbiter.specs.Limits.{maxDenominator, maxBurst, maxNeed, maxWithin}
+use Rattle.arbiter.specs.Refusals.{Verdict, faultless, fault, gate, then}
 use Rattle.arbiter.specs.Table.{rate, noRequestor, requestorClear, places, rowVerdict, eachPlace, tableVerdict}
 use Rattle.arbiter.specs.Figures.{finish, needVerdict, admissionVerdict}
-use Rattle.arbiter.specs.Start.{startVerdict}
 
 pub gate-open : (r : Refusal) (test : Bool) (rest : Verdict) → gate r test rest ≡ faultless → (test ≡ true) × (rest ≡ faultless)
 unfolding gate

@@ -6,7 +6,6 @@ use lib.ListN.{take, getD}
 use Rattle.lists.specs.Sums.{total}
 use Rattle.arbiter.specs.declared.table.Requestor.{Requestor}
 use Rattle.arbiter.specs.declared.table.Table.{Table}
-use Rattle.arbiter.specs.Limits.{maxSlot}
 use Rattle.arbiter.specs.Refusals.{Verdict, faultless, refusalAt, gate, then}
 use Rattle.arbiter.specs.Table.{rate, burst, noRequestor, places, eachPlace, tableVerdict}
 

@@ -1,7 +1,7 @@
 -- Document 01, "Refusals caused by the input" and "Refusals caused by the state": the number of each refusal, the place that
 -- it names, and what caused it; and how a series of checks picks the first fault.
-use mathlib.Core.Path.{_≡_, refl}
-use mathlib.Core.Bool.{Bool, true, false}
+use mathlib.Core.Path.{_≡_}
+use mathlib.Core.Bool.{Bool}
 use Prim.Native.Nat.{ℕ}
 use Rattle.lists.specs.Choices.{pick, inRange}
 use Rattle.arbiter.specs.declared.refusals.InputRefusal.{InputRefusal}

@@ -1,6 +1,6 @@
 -- Document 01: "A start takes a table and a first slot number; each credit c is b and each backlog q is 0." Its checks are
 -- those of a table given as numbers, then 12; a refused start hands back a state whose every field is 0.
-use mathlib.Core.List.{List, map}
+use mathlib.Core.List.{map}
 use Prim.Native.Nat.{ℕ}
 use lib.Dec.{leb}
 use lib.ListN.{replicate}
@@ -13,7 +13,6 @@ use Rattle.arbiter.specs.declared.start.StartAnswer.{StartAnswer}
 use Rattle.arbiter.specs.declared.start.StartAnswer.the-variants as code
 use Rattle.arbiter.specs.declared.start.Started as code-result
 use Rattle.arbiter.specs.Limits.{maxSlot}
-use Rattle.arbiter.specs.declared.refusals.Refusal.{Refusal}
 use Rattle.arbiter.specs.Refusals.{Verdict, faultless, refusal, refusalOf, gate, then, resolve}
 use Rattle.arbiter.specs.Answers.{Answer, accepted, refused}
 use Rattle.arbiter.specs.Table.{noRequestor}

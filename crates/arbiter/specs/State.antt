@@ -9,8 +9,8 @@ use Rattle.arbiter.specs.declared.table.Requestor.{Requestor}
 use Rattle.arbiter.specs.declared.state.Account.{Account}
 use Rattle.arbiter.specs.declared.state.Arbiter.{Arbiter}
 use Rattle.arbiter.specs.Limits.{maxBacklog, maxSlot}
-use Rattle.arbiter.specs.Refusals.{Verdict, faultless, fault, resolve}
-use Rattle.arbiter.specs.Table.{burst, noRequestor, places, tableVerdict}
+use Rattle.arbiter.specs.Refusals.{Verdict, resolve}
+use Rattle.arbiter.specs.Table.{burst, noRequestor, tableVerdict}
 
 -- the credit c and the backlog q of an account
 abbrev pub credit : Account → ℕ

@@ -1,9 +1,9 @@
 -- Document 01, "Table and limits", with checks 1 to 6 in their order: 1, 2, then 3, 4, 5 place by place, then 6.
-use mathlib.Core.Bool.{Bool, true, false, _&&_}
+use mathlib.Core.Bool.{Bool, _&&_}
 use mathlib.Core.List.{List, [], _∷_}
-use Prim.Native.Nat.{ℕ, zero, suc}
+use Prim.Native.Nat.{ℕ, suc}
 use lib.Dec.{leb, eqb}
-use lib.ListN.{take, drop, getD}
+use lib.ListN.{take, drop}
 use Rattle.lists.specs.Choices.{inRange}
 use Rattle.lists.specs.Sums.{total, every}
 use Rattle.arbiter.specs.declared.table.Requestor.{Requestor}

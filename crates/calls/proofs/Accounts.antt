@@ -1,5 +1,5 @@
 -- One account in a slot: when its place is eligible, and what passing it over makes of it. Assumes nothing.
-use mathlib.Core.Path.{_≡_, refl, ap, sym}
+use mathlib.Core.Path.{_≡_, sym}
 use mathlib.Core.Bool.{true, false}
 use Prim.Native.Nat.{ℕ, _+_, _≤_, _<_}
 use native.Mathlib.Nat.{min-eq-right, min-eq-left, le-of-lt}

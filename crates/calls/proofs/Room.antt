@@ -1,15 +1,12 @@
 -- What a sound state leaves room for: the index of a place is inside the arrays, and a credit and a rate add up within 32 bits.
 -- Assumes nothing.
-use mathlib.Core.Path.{_≡_}
-use Prim.Native.Nat.{ℕ, _+_, _*_, _^_, _≤_, _<_}
+use Prim.Native.Nat.{ℕ, _+_, _^_, _≤_, _<_}
 use native.Mathlib.Omega.{arith}
-use lib.ListN.{length, getD}
 use lib.Seq.{getD-take}
 use Rattle.arbiter.specs.declared.state.Arbiter.{Arbiter}
 use Rattle.arbiter.specs.Limits.{maxPlaces}
-use Rattle.arbiter.specs.Table.{noRequestor, places}
+use Rattle.arbiter.specs.Table.{noRequestor}
 use Rattle.arbiter.specs.State.{credit, requestorAt, accountAt}
-use Rattle.arbiter.proofs.Checks.{Fair}
 use Rattle.arbiter.proofs.Sound.{Sound, sound-fair, row-at, credit-most}
 
 module _ (s : Arbiter) (v : Sound maxPlaces s) where

@@ -1,6 +1,5 @@
 -- The accounts after a slot, place by place, are `after` of the rule. Assumes nothing.
 use mathlib.Core.Path.{_≡_, refl, ap}
-use mathlib.Core.Bool.{Bool, true, false}
 use mathlib.Core.List.{List, [], _∷_}
 use Prim.Native.Nat.{ℕ, zero, suc, _+_, _<_}
 use native.Mathlib.Nat.{not-suc-le-zero}
@@ -14,7 +13,7 @@ use Rattle.arbiter.specs.State.{requestorAt, accountAt}
 use Rattle.calls.specs.declared.slot.Grant.{Grant}
 use Rattle.calls.specs.declared.slot.Grant.the-variants.{Nobody, Place}
 use Rattle.calls.specs.Rule.{served, passed, after}
-use Rattle.calls.specs.Places.{names, accountAfter}
+use Rattle.calls.specs.Places.{accountAfter}
 
 module _ (d : ℕ) where
   pub after-none : (g : Grant) (rs : List Requestor) (accounts : List Account) → accounts ≡ after d g (take 0 rs) accounts

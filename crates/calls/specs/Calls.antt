@@ -1,6 +1,5 @@
 -- Posts and slots on a state: what each does and answers, what turns it down, and 23 in front. `ruled` is the rule's own step,
 -- which passes over what 11, 21 and 22 turn down; `called` is what the contracts of post and slot say.
-use mathlib.Core.List.{List}
 use Prim.Native.Nat.{ℕ, _+_}
 use lib.Dec.{ltb, leb}
 use lib.ListN.{set}

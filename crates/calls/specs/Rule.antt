@@ -1,6 +1,6 @@
 -- Document 01, "The rule of a slot", over the denominator D, the requestors of places 0 to N−1 and the accounts of the same
 -- places. Accounts past the last requestor are left as they are.
-use mathlib.Core.Bool.{Bool, true, false}
+use mathlib.Core.Bool.{Bool, false}
 use mathlib.Core.List.{List, [], _∷_}
 use Prim.Native.Nat.{ℕ, zero, suc, _+_, _-_, min}
 use lib.Dec.{ltb, leb}

@@ -1,8 +1,8 @@
 -- Document 01, "Bench examples": the P cases 2 (as numbers), 3, 4 and 7 to 12, and the denominators of case 13. Where the paper
 -- leaves a number of a table open, one is put there under which only the check in question can fail.
 use mathlib.Core.List.{List, [], _∷_, _++_}
-use lib.ListN.{replicate}
 use Prim.Native.Nat.{ℕ}
+use lib.ListN.{replicate}
 use Rattle.arbiter.specs.declared.table.Table.{Table}
 use Rattle.arbiter.specs.Refusals.{faultless, fault, refusal, refusalAt}
 use Rattle.arbiter.specs.Answers.{accepted, granted, idle, refused}

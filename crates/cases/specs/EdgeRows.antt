@@ -1,7 +1,7 @@
 -- The edges of the checks and of the rule, by name.
 use mathlib.Core.List.{List, [], _∷_, _++_}
-use lib.ListN.{replicate}
 use Prim.Native.Nat.{ℕ}
+use lib.ListN.{replicate}
 use Rattle.arbiter.specs.declared.table.Requestor.{Requestor}
 use Rattle.arbiter.specs.declared.table.Table.{Table}
 use Rattle.arbiter.specs.declared.state.Account.{Account}

@@ -1,6 +1,6 @@
 -- What a row asks, what it is told, and the one evaluator, which runs the definitions that the contracts cite.
-use mathlib.Core.List.{List, [], _∷_, _++_, map}
-use Prim.Native.Nat.{ℕ, _+_, _-_, _*_}
+use mathlib.Core.List.{List, _++_, map}
+use Prim.Native.Nat.{ℕ, _-_, _*_}
 use lib.ListN.{length, take, replicate}
 use Rattle.lists.specs.Runs
 use Rattle.arbiter.specs.declared.table.Requestor.{Requestor}
@@ -12,7 +12,7 @@ use Rattle.arbiter.specs.Refusals.{Verdict}
 use Rattle.arbiter.specs.Answers.{Answer}
 use Rattle.arbiter.specs.Table.{noRequestor, places}
 use Rattle.arbiter.specs.Figures.{burstsAbove, rateLeft, waitOf, finish, admissionVerdict}
-use Rattle.arbiter.specs.State.{credit, backlog, noAccount, requestorAt}
+use Rattle.arbiter.specs.State.{credit, backlog, requestorAt}
 use Rattle.arbiter.specs.Start.{start}
 use Rattle.calls.specs.Calls.{Call, called}
 use Rattle.guarantees.specs.Counts.{slotsIn, grantsTo}

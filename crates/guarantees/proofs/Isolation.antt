@@ -19,11 +19,11 @@ use Rattle.arbiter.specs.Refusals.{Verdict, faultless, fault}
 use Rattle.arbiter.specs.Answers.{Answer}
 use Rattle.arbiter.specs.Table.{places}
 use Rattle.arbiter.specs.State.{noAccount}
+use Rattle.arbiter.proofs.Sound.{Sound}
 use Rattle.calls.specs.declared.slot.Grant.{Grant}
 use Rattle.calls.specs.declared.slot.Grant.the-variants.{Nobody, Place}
 use Rattle.calls.specs.Rule.{eligible, later, first, served, passed, after}
 use Rattle.calls.specs.Calls.{Call, post, slot, grantOf, advanced, filled, slotAnswer, done, ruleVerdict, outcome, ruled, called}
-use Rattle.arbiter.proofs.Sound.{Sound}
 use Rattle.guarantees.specs.Counts.{opened}
 use Rattle.guarantees.specs.Isolation.{Isolation, concerns, concerning, view, Shown, shows, shown}
 use Rattle.guarantees.proofs.Step.{by-kind}

@@ -11,12 +11,12 @@ use Rattle.lists.specs.Sums.{total}
 use Rattle.lists.specs.Runs
 use Rattle.arbiter.specs.declared.state.Arbiter.{Arbiter}
 use Rattle.arbiter.specs.Answers.{Answer}
+use Rattle.arbiter.specs.Start.{opening}
 use Rattle.calls.specs.declared.slot.Grant.{Grant}
 use Rattle.calls.specs.declared.slot.Grant.the-variants.{Nobody, Place}
-use Rattle.calls.specs.Calls.{Call, grantOf, advanced, filled, slotAnswer, ruled, called}
+use Rattle.calls.specs.Calls.{Call, grantOf, advanced, filled, slotAnswer, ruled}
 use Rattle.guarantees.specs.Counts.{slotsIn}
 use Rattle.guarantees.specs.Stamps.{Stamps, Distinct-stamps, stampsIn, countedFrom}
-use Rattle.arbiter.specs.Start.{opening}
 use Rattle.guarantees.proofs.Step.{by-kind}
 use Rattle.guarantees.proofs.Start.{answered-ruled}
 

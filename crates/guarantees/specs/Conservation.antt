@@ -6,7 +6,6 @@ use lib.Dec.{eqb}
 use Rattle.lists.specs.Choices.{pick}
 use Rattle.lists.specs.Runs
 use Rattle.arbiter.specs.declared.table.Table.{Table}
-use Rattle.arbiter.specs.declared.state.Arbiter.{Arbiter}
 use Rattle.arbiter.specs.Answers.{Answer, accepted, granted, idle, refused}
 use Rattle.arbiter.specs.State.{backlog, accountAt}
 use Rattle.calls.specs.Calls.{Call, post, slot, called}

@@ -1,8 +1,8 @@
 -- Document 01, "Wait, finish and lead": what is counted along a list of calls. "Granted is what the accepted slots answer", so
 -- slots and grants are counted in the answers.
 use mathlib.Core.List.{List, [], _∷_}
-use Prim.Native.Nat.{ℕ, zero, suc, _<_}
 use mathlib.Core.Path.{_≡_}
+use Prim.Native.Nat.{ℕ, zero, suc, _<_}
 use lib.Dec.{ltb, eqb}
 use lib.ListN.{length}
 use Rattle.lists.specs.Choices.{pick}

@@ -9,7 +9,7 @@ use Rattle.lists.specs.Sums.{total}
 use Rattle.lists.specs.Runs
 use Rattle.arbiter.specs.declared.table.Table.{Table}
 use Rattle.arbiter.specs.declared.state.Arbiter.{Arbiter}
-use Rattle.arbiter.specs.Refusals.{Verdict, faultless, refusal}
+use Rattle.arbiter.specs.Refusals.{faultless, refusal}
 use Rattle.arbiter.specs.Answers.{refused}
 use Rattle.arbiter.specs.Table.{burst, places, tableVerdict}
 use Rattle.arbiter.specs.Figures.{rateLeft}

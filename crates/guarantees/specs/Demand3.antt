@@ -2,7 +2,6 @@
 -- posts and slots in any order, with any places and counts, refused ones too; `before` leads to a stretch, `inside` holds it.
 use mathlib.Core.Path.{_≡_}
 use mathlib.Core.List.{List}
-use mathlib.Core.Logic.{_⊎_}
 use Prim.Native.Nat.{ℕ, _+_, _*_, _≤_, _<_}
 use lib.ListN.{take}
 use Rattle.lists.specs.Sums.{total}

@@ -1,5 +1,5 @@
 -- Sums and tests over a list. The sum over the first k elements is `total f (take k xs)`.
-use mathlib.Core.Bool.{Bool, true, false, _&&_}
+use mathlib.Core.Bool.{Bool, true, _&&_}
 use mathlib.Core.List.{List, [], _∷_}
 use Prim.Native.Nat.{ℕ, zero, suc, _+_}
 

@@ -27,9 +27,9 @@ use Rattle.arbiter.specs.Answers.{Answer, accepted, granted, idle, refused}
 use Rattle.arbiter.specs.Start.{resultOf, start}
 use Rattle.calls.specs.declared.slot.Grant.{Grant}
 use Rattle.calls.specs.declared.slot.Grant.the-variants.{Nobody, Place}
+use Rattle.calls.specs.Calls.{Call, post, slot, grantOf, slotAnswer, done, ruleVerdict, outcome, called}
 use Rattle.replay.specs.declared.Words.{Words}
 use Rattle.replay.specs.declared.Made.{Made}
-use Rattle.calls.specs.Calls.{Call, post, slot, grantOf, slotAnswer, done, ruleVerdict, outcome, called}
 use Rattle.replay.specs.Replay.{callOf, callsOf, madeCalls, placeWord, answerWords, wordsOf, writtenOver, afterCalls, run, continued, replay, replayedOf, listed, Makes}
 
 -- ---- a refused call names no place

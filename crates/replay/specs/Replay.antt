@@ -15,9 +15,9 @@ use Rattle.arbiter.specs.declared.state.Arbiter.{Arbiter}
 use Rattle.arbiter.specs.declared.start.Started as code-result
 use Rattle.arbiter.specs.Answers.{Answer, accepted, granted, idle, refused}
 use Rattle.arbiter.specs.Start.{answerOf, start}
+use Rattle.calls.specs.Calls.{Call, post, slot, called}
 use Rattle.replay.specs.declared.Words.{Words}
 use Rattle.replay.specs.declared.Made.{Made}
-use Rattle.calls.specs.Calls.{Call, post, slot, called}
 
 -- a call is three numbers: what it is (0: a slot; anything else: a post), the place, the count; a slot passes over the last two
 unfoldable pub callOf : (what place count : ℕ) → Call

@@ -6,10 +6,6 @@ use Rattle.arbiter.specs.Limits.{maxPlaces}
 use Rattle.replay.proofs.Replays.{Standing, standing-first, standing-more, standing-last}
 use Rattle.replay.proofs.make_calls.Statement.{statement}
 use Rattle.replay.proofs.make_calls.Tie as tie
-use Rattle.replay.proofs.make_calls.Reads as reads
-use Rattle.replay.proofs.make_calls.Lts as lts
-use Rattle.replay.proofs.calls_with_room.Reads as calls-with-room-reads
-use Rattle.replay.proofs.make_call.Reads as make-call-reads
 
 -- after i calls the state and the lent answers are those of the run of the first i calls
 abbrev Inv-loop : tie.InvT-loop
@@ -19,106 +15,81 @@ Inv-loop calls answers₀ n state₀ i₀ answers state i = Standing maxPlaces c
 abbrev μ-loop : tie.MeasureT-loop
 μ-loop calls answers₀ n state₀ i₀ answers state i = n - i
 
--- src/lib.rt:104:9
 calls-with-room-requires : tie.Need-calls-with-room-requires Inv-loop μ-loop
 calls-with-room-requires c κs = search needs
 
--- src/lib.rt:107:5
 loop-holds : tie.Need-loop-holds Inv-loop μ-loop
 loop-holds c = standing-first maxPlaces _ _ _ _ (c .calls-with-room .ensures)
 
--- src/lib.rt:108:18
 mul-at : tie.Need-mul-at Inv-loop μ-loop
 mul-at c = omega arith
 
--- src/lib.rt:109:37
 mul-make-call : tie.Need-mul-make-call Inv-loop μ-loop
 mul-make-call c = omega arith
 
--- src/lib.rt:109:37
 shared-slice-read-make-call : tie.Need-shared-slice-read-make-call Inv-loop μ-loop
 shared-slice-read-make-call c = omega arith
 
--- src/lib.rt:109:54
 add-make-call : tie.Need-add-make-call Inv-loop μ-loop
 add-make-call c = omega arith
 
--- src/lib.rt:109:48
 mul-make-call-2 : tie.Need-mul-make-call-2 Inv-loop μ-loop
 mul-make-call-2 c = omega arith
 
--- src/lib.rt:109:48
 shared-slice-read-make-call-2 : tie.Need-shared-slice-read-make-call-2 Inv-loop μ-loop
 shared-slice-read-make-call-2 c = omega arith
 
--- src/lib.rt:109:69
 add-make-call-2 : tie.Need-add-make-call-2 Inv-loop μ-loop
 add-make-call-2 c = omega arith
 
--- src/lib.rt:109:63
 mul-make-call-3 : tie.Need-mul-make-call-3 Inv-loop μ-loop
 mul-make-call-3 c = omega arith
 
--- src/lib.rt:109:63
 shared-slice-read-make-call-3 : tie.Need-shared-slice-read-make-call-3 Inv-loop μ-loop
 shared-slice-read-make-call-3 c = omega arith
 
--- src/lib.rt:109:13
 make-call-requires : tie.Need-make-call-requires Inv-loop μ-loop
 make-call-requires c κs = search needs
 
--- src/lib.rt:111:9
 mul-answers : tie.Need-mul-answers Inv-loop μ-loop
 mul-answers c = omega arith
 
--- src/lib.rt:111:9
 slice-write-answers : tie.Need-slice-write-answers Inv-loop μ-loop
 slice-write-answers c = omega arith
 
--- src/lib.rt:112:17
 add-answers : tie.Need-add-answers Inv-loop μ-loop
 add-answers c = omega arith
 
--- src/lib.rt:112:9
 mul-answers-2 : tie.Need-mul-answers-2 Inv-loop μ-loop
 mul-answers-2 c = omega arith
 
--- src/lib.rt:112:9
 slice-write-answers-2 : tie.Need-slice-write-answers-2 Inv-loop μ-loop
 slice-write-answers-2 c = simp length-set (omega arith)
 
--- src/lib.rt:113:17
 add-answers-2 : tie.Need-add-answers-2 Inv-loop μ-loop
 add-answers-2 c = omega arith
 
--- src/lib.rt:113:9
 mul-answers-3 : tie.Need-mul-answers-3 Inv-loop μ-loop
 mul-answers-3 c = omega arith
 
--- src/lib.rt:113:9
 slice-write-answers-3 : tie.Need-slice-write-answers-3 Inv-loop μ-loop
 slice-write-answers-3 c = simp length-set (omega arith)
 
--- src/lib.rt:116:13
 add-i : tie.Need-add-i Inv-loop μ-loop
 add-i c = omega arith
 
--- src/lib.rt:107:5
 loop-less : tie.Need-loop-less Inv-loop μ-loop
 loop-less c = omega arith
 
--- src/lib.rt:107:5
 loop-again : tie.Need-loop-again Inv-loop μ-loop
 loop-again c =
     let a = (c .before .before .before .before .before .before .before .before .before .before .before) .args in
     let l = c .before .before .before .before .before .before .before .loop in
     standing-more maxPlaces (a .calls .now) (a .answers .now) (a .s) _ (l .answers) (l .state) (l .i) (c .before .before .make-call .result) (l .inv) (c .before .before .before .before .before .before .loop-test .taken) (c .before .before .make-call .ensures)
 
--- src/lib.rt:101:1
 same-length : tie.Need-same-length Inv-loop μ-loop
 same-length c = c .before .loop .inv .same-length
 
--- src/lib.rt:101:1
 returns : tie.Need-returns Inv-loop μ-loop
 returns c = standing-last maxPlaces _ _ _ _ _ _ (c .before .loop .i) (c .before .loop .inv) (c .loop-test .left) (c .before .before .calls-with-room .ensures)
 

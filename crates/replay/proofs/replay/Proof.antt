@@ -1,41 +1,30 @@
+use borrow.Author.Needs.{needs}
 use Rattle.arbiter.specs.Limits.{maxPlaces}
 use Rattle.replay.proofs.Replays.{replay-refused, replay-started}
-use borrow.Author.Needs.{needs}
 use Rattle.replay.proofs.replay.Statement.{statement}
 use Rattle.replay.proofs.replay.Tie as tie
-use Rattle.replay.proofs.replay.Reads as reads
-use Rattle.replay.proofs.replay.Lts as lts
-use Rattle.arbiter.proofs.state.Arbiter.start.Reads as start-reads
-use Rattle.replay.proofs.make_calls.Reads as make-calls-reads
 
--- src/lib.rt:128:9
 start-requires : tie.Need-start-requires
 start-requires c κs = search needs
 
--- src/lib.rt:132:36
 enum-told : tie.Need-enum-told
 enum-told c = search needs
 
--- src/lib.rt:133:71
 enum-told-2 : tie.Need-enum-told-2
 enum-told-2 c = search needs
 
--- src/lib.rt:133:50
 make-calls-requires : tie.Need-make-calls-requires
 make-calls-requires c κs = search needs
 
--- src/lib.rt:125:1
 returns : tie.Need-returns
 returns c =
     let a = (c .before .before .before .before .before .before) .args in
     let begun = c .before .before .before .start in
     replay-refused maxPlaces (a .t) (a .first .0) (a .calls .now) (a .answers .now) (begun .result) (begun .ensures) _ (c .enum-told .given .1)
 
--- src/lib.rt:125:1
 same-length : tie.Need-same-length
 same-length c = search needs
 
--- src/lib.rt:125:1
 returns-2 : tie.Need-returns-2
 returns-2 c =
     let a = (c .before .before .before .before .before .before .before .before .before .before) .args in

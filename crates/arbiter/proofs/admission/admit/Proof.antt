@@ -1,39 +1,26 @@
-use mathlib.Core.Path.{_≡_, refl, ap, sym, _∙_}
-use Prim.Native.Nat.{ℕ, _+_, _-_, _≤_, _<_}
-use native.Mathlib.Omega.{arith}
-use lib.ListN.{length, length-map, take, drop}
+use mathlib.Core.Path.{ap, sym, _∙_}
+use borrow.Author.Needs.{needs}
 use Rattle.arbiter.specs.Refusals.{verdictOf, then}
 use Rattle.arbiter.specs.Figures.{admissionVerdict}
-use borrow.Author.Needs.{needs}
 use Rattle.arbiter.proofs.admission.admit.Statement.{statement}
 use Rattle.arbiter.proofs.admission.admit.Tie as tie
-use Rattle.arbiter.proofs.admission.admit.Reads as reads
-use Rattle.arbiter.proofs.admission.admit.Lts as lts
-use Rattle.arbiter.proofs.admission.check_needs.Reads as check-needs-reads
-use Rattle.arbiter.proofs.table.check_table.Reads as check-table-reads
 
--- src/admission.rt:59:9
 check-table-requires : tie.Need-check-table-requires
 check-table-requires c κs = search needs
 
--- src/admission.rt:61:30
 enum-told : tie.Need-enum-told
 enum-told c = search needs
 
--- src/admission.rt:62:31
 enum-told-2 : tie.Need-enum-told-2
 enum-told-2 c = search needs
 
--- src/admission.rt:62:31
 check-needs-requires : tie.Need-check-needs-requires
 check-needs-requires c κs = sym (c .before .before .check-table .ensures) ∙ ap verdictOf (c .enum-told2 .given .1)
 
--- src/admission.rt:56:1
 returns : tie.Need-returns
 unfolding admissionVerdict then
 returns c = rw (← c .before .before .check-table .ensures, c .enum-told .given .1)
 
--- src/admission.rt:56:1
 returns-2 : tie.Need-returns-2
 unfolding admissionVerdict then
 returns-2 c = rw (← c .before .before .before .check-table .ensures, c .before .enum-told2 .given .1) (c .check-needs .ensures)

@@ -1,8 +1,7 @@
 use mathlib.Core.Path.{_≡_, refl, ap, sym, _∙_}
-use Prim.Native.Nat.{ℕ, _+_, _-_, _≤_, _<_}
+use Prim.Native.Nat.{_-_, _≤_}
 use native.Mathlib.Omega.{arith}
-use borrow.Author.Needs.{needs}
-use lib.ListN.{length, length-map, take, drop}
+use lib.ListN.{length, length-map, drop}
 use Rattle.arbiter.specs.Limits.{maxPlaces}
 use Rattle.arbiter.specs.Refusals.{verdictOf}
 use Rattle.arbiter.specs.Table.{places, eachPlace}
@@ -11,9 +10,6 @@ use Rattle.arbiter.proofs.Checks.{fair}
 use Rattle.arbiter.proofs.Places.{each-pass, each-stop, each-end}
 use Rattle.arbiter.proofs.admission.check_needs.Statement.{statement}
 use Rattle.arbiter.proofs.admission.check_needs.Tie as tie
-use Rattle.arbiter.proofs.admission.check_needs.Reads as reads
-use Rattle.arbiter.proofs.admission.check_needs.Lts as lts
-use Rattle.arbiter.proofs.admission.check_need.Reads as check-need-reads
 
 abbrev Inv-loop : tie.InvT-loop
 Inv-loop t n p₀ p = (p ≤ n) × (eachPlace (needVerdict (t .denominator) (places t)) 0 (places t) ≡ eachPlace (needVerdict (t .denominator) (places t)) p (drop p (places t)))
@@ -25,27 +21,21 @@ abbrev μ-loop : tie.MeasureT-loop
 long : (c : tie.Start Inv-loop μ-loop) → length (c .args .t .requestors) ≡ maxPlaces
 long c = sym (length-map (c .args .t .requestors) _) ∙ c .good .0 .1 .1 .1 .1 .0 .1 .0 .1
 
--- src/admission.rt:38:9
 loop-holds : tie.Need-loop-holds Inv-loop μ-loop
 loop-holds c = (omega arith, refl)
 
--- src/admission.rt:42:13
 check-need-requires : tie.Need-check-need-requires Inv-loop μ-loop
 check-need-requires c κs = ((c .before .before) .pre, omega arith)
 
--- src/admission.rt:45:21
 enum-told : tie.Need-enum-told Inv-loop μ-loop
 enum-told c = omega arith
 
--- src/admission.rt:45:21
 add-p : tie.Need-add-p Inv-loop μ-loop
 add-p c = omega arith
 
--- src/admission.rt:38:9
 loop-less : tie.Need-loop-less Inv-loop μ-loop
 loop-less c = omega arith
 
--- src/admission.rt:38:9
 loop-again : tie.Need-loop-again Inv-loop μ-loop
 loop-again c = 
     let a = (c .before .before .before .before .before) in
@@ -53,18 +43,15 @@ loop-again c =
     let e = sym (c .before .before .check-need .ensures) ∙ ap verdictOf (c .enum-told .given .1) in
     (omega arith, l .inv .1 ∙ each-pass (needVerdict (a .args .t .denominator) (places (a .args .t))) (a .args .t .requestors) (a .args .t .count) (l .p) (omega (arith, long a, fair maxPlaces (a .args .t) (a .pre) .count-most)) (omega arith) e)
 
--- src/admission.rt:48:23
 enum-told-2 : tie.Need-enum-told-2 Inv-loop μ-loop
 enum-told-2 c = omega arith
 
--- src/admission.rt:32:1
 returns : tie.Need-returns Inv-loop μ-loop
 returns c = 
     let a = (c .before .before) in
     let l = c .before .loop in
     sym (l .inv .1 ∙ each-end (needVerdict (a .args .t .denominator) (places (a .args .t))) (a .args .t .requestors) (a .args .t .count) (l .p) (omega arith))
 
--- src/admission.rt:32:1
 returns-2 : tie.Need-returns-2 Inv-loop μ-loop
 returns-2 c = 
     let a = (c .before .before .before .before .before) in

@@ -1,46 +1,34 @@
-use Prim.Native.Nat.{_*_}
-use Rattle.arbiter.specs.Limits.{maxDenominator}
-use mathlib.Core.Path.{_≡_, refl, ap, sym, _∙_}
-use Prim.Native.Nat.{ℕ, _+_, _-_, _≤_, _<_}
+use mathlib.Core.Path.{sym, _∙_}
+use Prim.Native.Nat.{_≤_}
 use native.Mathlib.Omega.{arith}
-use lib.ListN.{length, length-map, take, drop}
 use native.Mathlib.Nat.{mul-le-mul}
+use borrow.Author.Needs.{needs}
+use lib.ListN.{length-map}
 use Rattle.arbiter.specs.Limits.{maxPlaces}
 use Rattle.arbiter.specs.Figures.{finish}
 use Rattle.arbiter.proofs.Above.{Above, above}
-use borrow.Author.Needs.{needs}
 use Rattle.arbiter.proofs.figures.finish.Statement.{statement}
 use Rattle.arbiter.proofs.figures.finish.Tie as tie
-use Rattle.arbiter.proofs.figures.finish.Reads as reads
-use Rattle.arbiter.proofs.figures.finish.Lts as lts
-use Rattle.arbiter.proofs.figures.rounded_up.Reads as rounded-up-reads
-use Rattle.arbiter.proofs.figures.wait.Reads as wait-reads
 
 -- what the table's checks say of the sums above the place
 facts : (c : tie.Start) → Above maxPlaces (c .args .t1) (c .args .p)
 facts c = above maxPlaces (c .args .t1) (c .args .p) (sym (length-map (c .args .t1 .requestors) _) ∙ c .good .0 .1 .1 .1 .1 .0 .1 .0 .1) (c .pre .0) (c .pre .1)
 
--- src/figures.rt:40:13
 mul-r : tie.Need-mul-r
 mul-r c = omega (arith, facts c .place)
 
--- src/figures.rt:40:13
 element-copy-out-r : tie.Need-element-copy-out-r
 element-copy-out-r c = omega (arith, facts c .place)
 
--- src/figures.rt:42:9
 wait-requires : tie.Need-wait-requires
 wait-requires c κs = search needs
 
--- src/figures.rt:43:32
 cast-rounded-up : tie.Need-cast-rounded-up
 cast-rounded-up c = search needs
 
--- src/figures.rt:43:47
 cast-rounded-up-2 : tie.Need-cast-rounded-up-2
 cast-rounded-up-2 c = search needs
 
--- src/figures.rt:43:31
 mul-rounded-up : tie.Need-mul-rounded-up
 mul-rounded-up c = 
     let a = (c .before .before .before) in
@@ -48,13 +36,11 @@ mul-rounded-up c =
     let m = mul-le-mul j (facts a .denominator-most) in
     omega (arith, m)
 
--- src/figures.rt:43:58
 cast-rounded-up-3 : tie.Need-cast-rounded-up-3
 cast-rounded-up-3 c = 
     let f = facts (c .before .before .before) in
     omega (arith, f .rates, f .denominator-most)
 
--- src/figures.rt:43:9
 rounded-up-requires : tie.Need-rounded-up-requires
 rounded-up-requires c κs = 
     let a = (c .before .before .before) in
@@ -62,7 +48,6 @@ rounded-up-requires c κs =
     let m = mul-le-mul j (facts a .denominator-most) in
     omega (arith, m, facts a .own-rate, facts a .rates, facts a .denominator-most)
 
--- src/figures.rt:44:11
 add-t15 : tie.Need-add-t15
 add-t15 c = 
     let a = (c .before .before .before .before .before) in
@@ -70,7 +55,6 @@ add-t15 c =
     let m = mul-le-mul j (facts a .denominator-most) in
     omega (arith, m, facts a .rates, facts a .denominator-most, c .before .before .before .wait .ensures .1, c .before .rounded-up .ensures .1)
 
--- src/figures.rt:35:1
 returns : tie.Need-returns
 unfolding finish
 returns c = 

@@ -1,27 +1,21 @@
-use native.Mathlib.Omega.{arith}
-use native.Mathlib.Nat.{div-le-self}
 use mathlib.Core.Path.{refl}
 use Prim.Native.Nat.{_+_, _-_}
-use Rattle.arbiter.specs.Figures.{roundedUp}
+use native.Mathlib.Omega.{arith}
+use native.Mathlib.Nat.{div-le-self}
 use borrow.Author.Needs.{needs}
+use Rattle.arbiter.specs.Figures.{roundedUp}
 use Rattle.arbiter.proofs.figures.rounded_up.Statement.{statement}
 use Rattle.arbiter.proofs.figures.rounded_up.Tie as tie
-use Rattle.arbiter.proofs.figures.rounded_up.Reads as reads
-use Rattle.arbiter.proofs.figures.rounded_up.Lts as lts
 
--- src/figures.rt:20:11
 sub-result : tie.Need-sub-result
 sub-result c = search needs
 
--- src/figures.rt:20:6
 add-result : tie.Need-add-result
 add-result c = search needs
 
--- src/figures.rt:20:5
 div-result : tie.Need-div-result
 div-result c = search needs
 
--- src/figures.rt:15:1
 returns : tie.Need-returns
 unfolding roundedUp
 returns c = (refl, omega (arith, div-le-self (c .args .a + (c .args .b - 1)) (c .args .b)))

@@ -1,46 +1,33 @@
-use mathlib.Core.Path.{_≡_, refl, ap, sym, _∙_}
-use Prim.Native.Nat.{ℕ, _+_, _-_, _≤_, _<_}
+use mathlib.Core.Path.{sym, _∙_}
 use native.Mathlib.Omega.{arith}
-use lib.ListN.{length, length-map, take, drop}
-use Rattle.arbiter.specs.Limits.{maxPlaces}
-use Rattle.arbiter.specs.Figures.{waitOf, roundedUp}
-use Rattle.arbiter.proofs.Above.{Above, above}
 use borrow.Author.Needs.{needs}
+use lib.ListN.{length-map}
+use Rattle.arbiter.specs.Limits.{maxPlaces}
+use Rattle.arbiter.proofs.Above.{Above, above}
 use Rattle.arbiter.proofs.figures.wait.Statement.{statement}
 use Rattle.arbiter.proofs.figures.wait.Tie as tie
-use Rattle.arbiter.proofs.figures.wait.Reads as reads
-use Rattle.arbiter.proofs.figures.wait.Lts as lts
-use Rattle.arbiter.proofs.figures.rounded_up.Reads as rounded-up-reads
-use Rattle.arbiter.proofs.sums.bursts_above.Reads as bursts-above-reads
-use Rattle.arbiter.proofs.sums.rates_above.Reads as rates-above-reads
 
 -- what the table's checks say of the sums above the place
 facts : (c : tie.Start) → Above maxPlaces (c .args .t) (c .args .p)
 facts c = above maxPlaces (c .args .t) (c .args .p) (sym (length-map (c .args .t .requestors) _) ∙ c .good .0 .1 .1 .1 .1 .0 .1 .0 .1) (c .pre .0) (c .pre .1)
 
--- src/figures.rt:30:17
 cast-left : tie.Need-cast-left
 cast-left c = search needs
 
--- src/figures.rt:30:29
 rates-above-requires : tie.Need-rates-above-requires
 rates-above-requires c κs = omega (arith, facts c .place)
 
--- src/figures.rt:30:16
 sub-left : tie.Need-sub-left
 sub-left c = omega (arith, facts (c .before) .rates, c .rates-above .ensures .0)
 
--- src/figures.rt:31:22
 bursts-above-requires : tie.Need-bursts-above-requires
 bursts-above-requires c κs = omega (arith, facts (c .before) .place)
 
--- src/figures.rt:31:11
 rounded-up-requires : tie.Need-rounded-up-requires
 rounded-up-requires c κs = 
     let f = facts (c .before .before) in
     omega (arith, f .place, f .own-rate, f .rates, f .denominator-most, c .before .rates-above .ensures .0, c .bursts-above .ensures .1)
 
--- src/figures.rt:24:1
 returns : tie.Need-returns
 returns c = 
     let f = facts (c .before .before .before) in

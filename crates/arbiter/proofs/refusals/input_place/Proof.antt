@@ -1,120 +1,90 @@
-use Rattle.arbiter.specs.Refusals.{inputPlace}
-use mathlib.Core.Path.{_≡_, refl, ap, sym}
+use mathlib.Core.Path.{ap, sym}
 use borrow.Author.Needs.{needs}
+use Rattle.arbiter.specs.Refusals.{inputPlace}
 use Rattle.arbiter.proofs.refusals.input_place.Statement.{statement}
 use Rattle.arbiter.proofs.refusals.input_place.Tie as tie
-use Rattle.arbiter.proofs.refusals.input_place.Reads as reads
-use Rattle.arbiter.proofs.refusals.input_place.Lts as lts
 
--- src/refusals.rt:86:28
 enum-known-i : tie.Need-enum-known-i
 enum-known-i c = search needs
 
--- src/refusals.rt:87:29
 enum-known-i-2 : tie.Need-enum-known-i-2
 enum-known-i-2 c = search needs
 
--- src/refusals.rt:88:28
 enum-known-i-3 : tie.Need-enum-known-i-3
 enum-known-i-3 c = search needs
 
--- src/refusals.rt:89:30
 enum-known-i-4 : tie.Need-enum-known-i-4
 enum-known-i-4 c = search needs
 
--- src/refusals.rt:90:38
 enum-told : tie.Need-enum-told
 enum-told c = search needs
 
--- src/refusals.rt:91:32
 enum-told-2 : tie.Need-enum-told-2
 enum-told-2 c = search needs
 
--- src/refusals.rt:92:34
 enum-told-3 : tie.Need-enum-told-3
 enum-told-3 c = search needs
 
--- src/refusals.rt:93:35
 enum-told-4 : tie.Need-enum-told-4
 enum-told-4 c = search needs
 
--- src/refusals.rt:94:37
 enum-told-5 : tie.Need-enum-told-5
 enum-told-5 c = search needs
 
--- src/refusals.rt:95:36
 enum-told-6 : tie.Need-enum-told-6
 enum-told-6 c = search needs
 
--- src/refusals.rt:96:38
 enum-told-7 : tie.Need-enum-told-7
 enum-told-7 c = search needs
 
--- src/refusals.rt:97:36
 enum-told-8 : tie.Need-enum-told-8
 enum-told-8 c = search needs
 
--- src/refusals.rt:98:34
 enum-told-9 : tie.Need-enum-told-9
 enum-told-9 c = search needs
 
--- src/refusals.rt:99:38
 enum-told-10 : tie.Need-enum-told-10
 enum-told-10 c = search needs
 
--- src/refusals.rt:82:1
 returns : tie.Need-returns
 returns c = ap inputPlace (sym (c .before .i .given .1))
 
--- src/refusals.rt:82:1
 returns-2 : tie.Need-returns-2
 returns-2 c = ap inputPlace (sym (c .before .i2 .given .1))
 
--- src/refusals.rt:82:1
 returns-3 : tie.Need-returns-3
 returns-3 c = ap inputPlace (sym (c .before .i3 .given .1))
 
--- src/refusals.rt:82:1
 returns-4 : tie.Need-returns-4
 returns-4 c = ap inputPlace (sym (c .before .i4 .given .1))
 
--- src/refusals.rt:82:1
 returns-5 : tie.Need-returns-5
 returns-5 c = search needs
 
--- src/refusals.rt:82:1
 returns-6 : tie.Need-returns-6
 returns-6 c = search needs
 
--- src/refusals.rt:82:1
 returns-7 : tie.Need-returns-7
 returns-7 c = search needs
 
--- src/refusals.rt:82:1
 returns-8 : tie.Need-returns-8
 returns-8 c = search needs
 
--- src/refusals.rt:82:1
 returns-9 : tie.Need-returns-9
 returns-9 c = search needs
 
--- src/refusals.rt:82:1
 returns-10 : tie.Need-returns-10
 returns-10 c = search needs
 
--- src/refusals.rt:82:1
 returns-11 : tie.Need-returns-11
 returns-11 c = search needs
 
--- src/refusals.rt:82:1
 returns-12 : tie.Need-returns-12
 returns-12 c = search needs
 
--- src/refusals.rt:82:1
 returns-13 : tie.Need-returns-13
 returns-13 c = search needs
 
--- src/refusals.rt:82:1
 returns-14 : tie.Need-returns-14
 returns-14 c = search needs
 

@@ -1,10 +1,8 @@
-use mathlib.Core.Path.{_≡_, refl, ap, sym, _∙_}
-use Prim.Native.Nat.{ℕ, _+_, _-_, _≤_, _<_}
+use mathlib.Core.Path.{_≡_, refl, sym, _∙_}
+use mathlib.Core.List.{map, _++_}
+use Prim.Native.Nat.{_-_, _≤_}
 use native.Mathlib.Omega.{arith}
-use borrow.Author.Needs.{needs}
-use lib.ListN.{length, length-map, take, drop}
-use mathlib.Core.List.{List, map, _++_}
-use lib.ListN.{List·getD-map, replicate}
+use lib.ListN.{length, length-map, take, drop, List·getD-map}
 use Rattle.lists.proofs.Overwriting.{overwrite-more, overwrite-all}
 use Rattle.arbiter.specs.Limits.{maxPlaces}
 use Rattle.arbiter.specs.Table.{noRequestor}
@@ -12,8 +10,6 @@ use Rattle.arbiter.specs.State.{noAccount}
 use Rattle.arbiter.specs.Start.{fresh}
 use Rattle.arbiter.proofs.start.opening_accounts.Statement.{statement}
 use Rattle.arbiter.proofs.start.opening_accounts.Tie as tie
-use Rattle.arbiter.proofs.start.opening_accounts.Reads as reads
-use Rattle.arbiter.proofs.start.opening_accounts.Lts as lts
 
 abbrev Inv-loop : tie.InvT-loop
 Inv-loop t accounts₀ p₀ accounts p = (p ≤ maxPlaces) × (length accounts₀ ≡ maxPlaces) × (accounts ≡ take p (map fresh (t .requestors)) ++ drop p accounts₀)
@@ -25,35 +21,27 @@ abbrev μ-loop : tie.MeasureT-loop
 rows : (c : tie.Start Inv-loop μ-loop) → length (c .args .t1 .requestors) ≡ maxPlaces
 rows c = sym (length-map (c .args .t1 .requestors) _) ∙ c .good .0 .1 .1 .1 .1 .0 .1 .0 .1
 
--- src/start.rt:31:5
 loop-holds : tie.Need-loop-holds Inv-loop μ-loop
 loop-holds c = (omega arith, refl, refl)
 
--- src/start.rt:32:17
 mul-r : tie.Need-mul-r Inv-loop μ-loop
 mul-r c = omega arith
 
--- src/start.rt:32:17
 element-copy-out-r : tie.Need-element-copy-out-r Inv-loop μ-loop
 element-copy-out-r c = omega arith
 
--- src/start.rt:33:9
 mul-accounts : tie.Need-mul-accounts Inv-loop μ-loop
 mul-accounts c = omega arith
 
--- src/start.rt:33:9
 array-set-from-accounts : tie.Need-array-set-from-accounts Inv-loop μ-loop
 array-set-from-accounts c = omega arith
 
--- src/start.rt:34:13
 add-p : tie.Need-add-p Inv-loop μ-loop
 add-p c = omega arith
 
--- src/start.rt:31:5
 loop-less : tie.Need-loop-less Inv-loop μ-loop
 loop-less c = omega arith
 
--- src/start.rt:31:5
 loop-again : tie.Need-loop-again Inv-loop μ-loop
 loop-again c = 
     let a = (c .before .before .before) in
@@ -62,7 +50,6 @@ loop-again c =
     (omega arith, l .inv .1,
       overwrite-more noAccount (map fresh rs) _ _ (l .p) _ (omega (arith, length-map rs fresh, rows a)) (omega (arith, l .inv .1)) (l .inv .2) (sym (List·getD-map fresh rs (l .p) noRequestor)))
 
--- src/start.rt:25:1
 returns : tie.Need-returns Inv-loop μ-loop
 returns c = 
     let a = (c .before .before) in

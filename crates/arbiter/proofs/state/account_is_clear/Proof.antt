@@ -1,14 +1,10 @@
 use borrow.Author.Tests.{eq-eqb, ne-eqb}
 use Rattle.arbiter.proofs.state.account_is_clear.Statement.{statement}
 use Rattle.arbiter.proofs.state.account_is_clear.Tie as tie
-use Rattle.arbiter.proofs.state.account_is_clear.Reads as reads
-use Rattle.arbiter.proofs.state.account_is_clear.Lts as lts
 
--- src/state.rt:41:9
 returns : tie.Need-returns
 returns c = simp (ne-eqb _ _ (c .if1 .taken))
 
--- src/state.rt:36:1
 returns-2 : tie.Need-returns-2
 returns-2 c = simp (eq-eqb _ _ (c .before .if1 .left))
 

@@ -1,27 +1,22 @@
 use mathlib.Core.List.{List}
-use Rattle.arbiter.specs.declared.table.Requestor.{Requestor}
-use Rattle.arbiter.specs.declared.state.Account.{Account}
-use mathlib.Core.Path.{_≡_, refl, ap, sym, _∙_}
-use Prim.Native.Nat.{ℕ, _+_, _-_, _≤_, _<_}
+use mathlib.Core.Path.{_≡_, refl, sym, _∙_}
+use mathlib.Core.Bool.{true}
+use Prim.Native.Nat.{ℕ, _+_, _-_, _≤_, _<_, suc, _*_}
 use native.Mathlib.Omega.{arith}
-use borrow.Author.Needs.{needs}
-use lib.ListN.{length, length-map, take, drop}
-use Prim.Native.Nat.{suc, _*_}
-use mathlib.Core.Bool.{true, false, _&&_}
 use native.Mathlib.Numerals.{add-one}
-use lib.ListN.{getD, length-take}
-use lib.Seq.{getD-take}
 use borrow.Author.Tests.{le-leb, lt-leb}
+use lib.ListN.{length, length-map, take, getD, length-take}
+use lib.Seq.{getD-take}
 use Rattle.lists.specs.Sums.{total, every, upTo}
 use Rattle.lists.proofs.Tests.{true-and, and-false, every-more, every-fails, up-to-fails}
 use Rattle.lists.proofs.Sums.{total-take-suc}
+use Rattle.arbiter.specs.declared.table.Requestor.{Requestor}
+use Rattle.arbiter.specs.declared.state.Account.{Account}
 use Rattle.arbiter.specs.Limits.{maxPlaces}
 use Rattle.arbiter.specs.Table.{burst, noRequestor}
 use Rattle.arbiter.specs.State.{credit, noAccount, backlogFits, creditsHold}
 use Rattle.arbiter.proofs.state.accounts_hold.Statement.{statement}
 use Rattle.arbiter.proofs.state.accounts_hold.Tie as tie
-use Rattle.arbiter.proofs.state.accounts_hold.Reads as reads
-use Rattle.arbiter.proofs.state.accounts_hold.Lts as lts
 
 -- what the loop has found after p places: the sums, which fit, and that every test so far passed
 pub record Held (n : ℕ) (rs : List Requestor) (accounts : List Account) (credits bursts p : ℕ) : Type 0 where
@@ -62,27 +57,21 @@ abbrev μ-loop : tie.MeasureT-loop
 long : (c : tie.Start Inv-loop μ-loop) → length (c .args .t1 .accounts) ≡ maxPlaces
 long c = sym (length-map (c .args .t1 .accounts) _) ∙ c .good .0 .1 .1 .1 .1 .0 .1 .0 .1
 
--- src/state.rt:73:5
 loop-holds : tie.Need-loop-holds Inv-loop μ-loop
 loop-holds c = held-none _ _ _
 
--- src/state.rt:74:17
 mul-r : tie.Need-mul-r Inv-loop μ-loop
 mul-r c = omega arith
 
--- src/state.rt:74:17
 element-copy-out-r : tie.Need-element-copy-out-r Inv-loop μ-loop
 element-copy-out-r c = omega arith
 
--- src/state.rt:75:17
 mul-a : tie.Need-mul-a Inv-loop μ-loop
 mul-a c = omega arith
 
--- src/state.rt:75:17
 element-copy-out-a : tie.Need-element-copy-out-a Inv-loop μ-loop
 element-copy-out-a c = omega arith
 
--- src/state.rt:78:13
 returns : tie.Need-returns Inv-loop μ-loop
 returns c = 
     let a = (c .before .before .before .before .before .before .before .before) in
@@ -95,23 +84,18 @@ returns c =
     let e = every-fails backlogFits noAccount (take n accounts) (l .p) inside (rw (getD-take n accounts (l .p) noAccount (omega arith)) (lt-leb _ _ (c .if1 .taken))) in
     rw e
 
--- src/state.rt:80:30
 cast-credits : tie.Need-cast-credits Inv-loop μ-loop
 cast-credits c = omega arith
 
--- src/state.rt:80:19
 add-credits : tie.Need-add-credits Inv-loop μ-loop
 add-credits c = omega arith
 
--- src/state.rt:81:28
 cast-bursts : tie.Need-cast-bursts Inv-loop μ-loop
 cast-bursts c = omega arith
 
--- src/state.rt:81:18
 add-bursts : tie.Need-add-bursts Inv-loop μ-loop
 add-bursts c = omega arith
 
--- src/state.rt:83:13
 returns-2 : tie.Need-returns-2 Inv-loop μ-loop
 returns-2 c = 
     let a = (c .before .before .before .before .before .before .before .before .before .before .before) in
@@ -124,15 +108,12 @@ returns-2 c =
     let over = lt-leb (total credit (take (suc (l .p)) accounts)) (total burst (take (suc (l .p)) rs)) (omega (arith, c .if2 .taken)) in
     sym (and-false (every backlogFits (take n accounts)) (upTo n (creditsHold rs accounts)) (up-to-fails (creditsHold rs accounts) n (suc (l .p)) (omega arith) (omega arith) over))
 
--- src/state.rt:85:13
 add-p : tie.Need-add-p Inv-loop μ-loop
 add-p c = omega arith
 
--- src/state.rt:73:5
 loop-less : tie.Need-loop-less Inv-loop μ-loop
 loop-less c = omega arith
 
--- src/state.rt:73:5
 loop-again : tie.Need-loop-again Inv-loop μ-loop
 loop-again c = 
     let a = (c .before .before .before .before .before .before .before .before .before .before .before) in
@@ -144,7 +125,6 @@ loop-again c =
       (omega arith) refl refl (omega (arith, c .before .before .struct-known2 .given)) (omega (arith, c .before .struct-known3 .given))
       (le-leb _ _ (c .before .before .before .if1 .left)) (c .if2 .left) (l .inv)
 
--- src/state.rt:64:1
 returns-3 : tie.Need-returns-3 Inv-loop μ-loop
 returns-3 c = 
     let a = (c .before .before .before) in

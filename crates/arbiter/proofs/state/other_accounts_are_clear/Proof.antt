@@ -1,18 +1,14 @@
-use mathlib.Core.Path.{_≡_, refl, ap, sym, _∙_}
-use Prim.Native.Nat.{ℕ, _+_, _-_, _≤_, _<_}
+use mathlib.Core.Path.{_≡_, refl, sym, _∙_}
+use Prim.Native.Nat.{_-_, _≤_}
 use native.Mathlib.Omega.{arith}
-use borrow.Author.Needs.{needs}
-use lib.ListN.{length, length-map, take, drop}
 use borrow.Author.Tests.{not-true, not-false}
+use lib.ListN.{length, length-map, drop}
 use Rattle.lists.specs.Sums.{every}
 use Rattle.lists.proofs.Tests.{every-pass, every-stop, every-end}
 use Rattle.arbiter.specs.Limits.{maxPlaces}
 use Rattle.arbiter.specs.State.{noAccount, accountClear}
 use Rattle.arbiter.proofs.state.other_accounts_are_clear.Statement.{statement}
 use Rattle.arbiter.proofs.state.other_accounts_are_clear.Tie as tie
-use Rattle.arbiter.proofs.state.other_accounts_are_clear.Reads as reads
-use Rattle.arbiter.proofs.state.other_accounts_are_clear.Lts as lts
-use Rattle.arbiter.proofs.state.account_is_clear.Reads as account-is-clear-reads
 
 abbrev Inv-loop : tie.InvT-loop
 Inv-loop s p₀ p = (p ≤ maxPlaces) × (every accountClear (drop p₀ (s .accounts)) ≡ every accountClear (drop p (s .accounts)))
@@ -24,45 +20,36 @@ abbrev μ-loop : tie.MeasureT-loop
 long : (c : tie.Start Inv-loop μ-loop) → length (c .args .t1 .accounts) ≡ maxPlaces
 long c = sym (length-map (c .args .t1 .accounts) _) ∙ c .good .0 .1 .1 .1 .1 .0 .1 .0 .1
 
--- src/state.rt:53:5
 loop-holds : tie.Need-loop-holds Inv-loop μ-loop
 loop-holds c = ((c .before) .pre, refl)
 
--- src/state.rt:54:17
 mul-a : tie.Need-mul-a Inv-loop μ-loop
 mul-a c = omega arith
 
--- src/state.rt:54:17
 element-copy-out-a : tie.Need-element-copy-out-a Inv-loop μ-loop
 element-copy-out-a c = omega arith
 
--- src/state.rt:55:13
 account-is-clear-requires : tie.Need-account-is-clear-requires Inv-loop μ-loop
 account-is-clear-requires c κs = omega arith
 
--- src/state.rt:56:13
 returns : tie.Need-returns Inv-loop μ-loop
 returns c = 
     let a = (c .before .before .before .before .before .before) in
     let l = c .before .before .before .before .loop in
     sym (l .inv .1 ∙ every-stop accountClear noAccount (a .args .t1 .accounts) (l .p) (omega (arith, long a)) (sym (c .before .account-is-clear .ensures) ∙ not-true _ (c .if1 .taken)))
 
--- src/state.rt:58:13
 add-p : tie.Need-add-p Inv-loop μ-loop
 add-p c = omega arith
 
--- src/state.rt:53:5
 loop-less : tie.Need-loop-less Inv-loop μ-loop
 loop-less c = omega arith
 
--- src/state.rt:53:5
 loop-again : tie.Need-loop-again Inv-loop μ-loop
 loop-again c = 
     let a = (c .before .before .before .before .before .before) in
     let l = c .before .before .before .before .loop in
     (omega arith, l .inv .1 ∙ every-pass accountClear noAccount (a .args .t1 .accounts) (l .p) (omega (arith, long a)) (sym (c .before .account-is-clear .ensures) ∙ not-false _ (c .if1 .left)))
 
--- src/state.rt:47:1
 returns-2 : tie.Need-returns-2 Inv-loop μ-loop
 returns-2 c = 
     let a = (c .before .before .before) in

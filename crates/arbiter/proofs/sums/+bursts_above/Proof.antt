@@ -1,15 +1,12 @@
-use Rattle.arbiter.specs.Table.{burst, noRequestor}
-use Rattle.arbiter.specs.Limits.{maxPlaces}
-use Rattle.lists.proofs.Sums.{total-take-pred}
-use Rattle.lists.specs.Sums.{total}
-use lib.ListN.{length, length-map, take, drop}
-use borrow.Author.Needs.{needs}
-use native.Mathlib.Omega.{arith}
-use Prim.Native.Nat.{ℕ, _+_, _-_, _≤_, _<_}
-use mathlib.Core.Path.{_≡_, refl, ap, sym, _∙_}
+use mathlib.Core.Path.{refl}
 use Prim.Native.Nat.{ℕ, _<_}
+use native.Mathlib.Omega.{arith}
+use borrow.Author.Needs.{needs}
 use borrow.Fn.Kinds.{In}
 use borrow.Fn.PlainCycle.{Measures, is, falls, and}
+use Rattle.lists.proofs.Sums.{total-take-pred}
+use Rattle.lists.specs.Sums.{total}
+use Rattle.arbiter.specs.Table.{burst, noRequestor}
 use Rattle.arbiter.proofs.sums.bursts_above.Reads as bursts-above
 use Rattle.arbiter.proofs.sums.bursts_above.Kinds as bursts-above-kinds
 use Rattle.arbiter.proofs.sums.+bursts_above.Lts-bursts_above as bursts-above-lts
@@ -31,49 +28,42 @@ bursts-above-below t =
     (falls 0 bursts-above-kinds.ps _<_ μ-bursts-above t)
     bursts-above.Pre
 
--- src/sums.rt:17:17
 bursts-above-sub-q : (t : ℕ) → bursts-above-lts.Need-sub-q (
   bursts-above-below t,
   bursts-above.Post,
 ) (bursts-above-at t) bursts-above.Post
 bursts-above-sub-q t c = search needs
 
--- src/sums.rt:18:17
 bursts-above-mul-r : (t : ℕ) → bursts-above-lts.Need-mul-r (
   bursts-above-below t,
   bursts-above.Post,
 ) (bursts-above-at t) bursts-above.Post
 bursts-above-mul-r t c = search needs
 
--- src/sums.rt:18:17
 bursts-above-element-copy-out-r : (t : ℕ) → bursts-above-lts.Need-element-copy-out-r (
   bursts-above-below t,
   bursts-above.Post,
 ) (bursts-above-at t) bursts-above.Post
 bursts-above-element-copy-out-r t c = search needs
 
--- src/sums.rt:19:9
 bursts-above-bursts-above-requires : (t : ℕ) → bursts-above-lts.Need-bursts-above-requires (
   bursts-above-below t,
   bursts-above.Post,
 ) (bursts-above-at t) bursts-above.Post
 bursts-above-bursts-above-requires t c κs = omega arith
 
--- src/sums.rt:19:31
 bursts-above-cast-result : (t : ℕ) → bursts-above-lts.Need-cast-result (
   bursts-above-below t,
   bursts-above.Post,
 ) (bursts-above-at t) bursts-above.Post
 bursts-above-cast-result t c = search needs
 
--- src/sums.rt:19:9
 bursts-above-add-result : (t : ℕ) → bursts-above-lts.Need-add-result (
   bursts-above-below t,
   bursts-above.Post,
 ) (bursts-above-at t) bursts-above.Post
 bursts-above-add-result t c = search needs
 
--- src/sums.rt:9:1
 bursts-above-returns : (t : ℕ) → bursts-above-lts.Need-returns (
   bursts-above-below t,
   bursts-above.Post,
@@ -81,7 +71,6 @@ bursts-above-returns : (t : ℕ) → bursts-above-lts.Need-returns (
 unfolding total
 bursts-above-returns t c = (rw (c .if1 .taken), omega arith)
 
--- src/sums.rt:9:1
 bursts-above-returns-2 : (t : ℕ) → bursts-above-lts.Need-returns-2 (
   bursts-above-below t,
   bursts-above.Post,

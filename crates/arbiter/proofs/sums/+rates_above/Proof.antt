@@ -1,15 +1,12 @@
-use Rattle.arbiter.specs.Table.{rate, noRequestor}
-use Rattle.arbiter.specs.Limits.{maxPlaces}
-use Rattle.lists.proofs.Sums.{total-take-pred}
-use Rattle.lists.specs.Sums.{total}
-use lib.ListN.{length, length-map, take, drop}
-use borrow.Author.Needs.{needs}
-use native.Mathlib.Omega.{arith}
-use Prim.Native.Nat.{ℕ, _+_, _-_, _≤_, _<_}
-use mathlib.Core.Path.{_≡_, refl, ap, sym, _∙_}
+use mathlib.Core.Path.{refl}
 use Prim.Native.Nat.{ℕ, _<_}
+use native.Mathlib.Omega.{arith}
+use borrow.Author.Needs.{needs}
 use borrow.Fn.Kinds.{In}
 use borrow.Fn.PlainCycle.{Measures, is, falls, and}
+use Rattle.lists.proofs.Sums.{total-take-pred}
+use Rattle.lists.specs.Sums.{total}
+use Rattle.arbiter.specs.Table.{rate, noRequestor}
 use Rattle.arbiter.proofs.sums.rates_above.Reads as rates-above
 use Rattle.arbiter.proofs.sums.rates_above.Kinds as rates-above-kinds
 use Rattle.arbiter.proofs.sums.+rates_above.Lts-rates_above as rates-above-lts
@@ -27,7 +24,6 @@ abbrev rates-above-below : ℕ → In 0 rates-above-kinds.ps
 rates-above-below t =
     and 0 rates-above-kinds.ps (falls 0 rates-above-kinds.ps _<_ μ-rates-above t) rates-above.Pre
 
--- src/sums.rt:32:17
 rates-above-sub-q :
     (t : ℕ) →
     rates-above-lts.Need-sub-q
@@ -36,7 +32,6 @@ rates-above-sub-q :
     rates-above.Post
 rates-above-sub-q t c = search needs
 
--- src/sums.rt:33:17
 rates-above-mul-r :
     (t : ℕ) →
     rates-above-lts.Need-mul-r
@@ -45,35 +40,30 @@ rates-above-mul-r :
     rates-above.Post
 rates-above-mul-r t c = search needs
 
--- src/sums.rt:33:17
 rates-above-element-copy-out-r : (t : ℕ) → rates-above-lts.Need-element-copy-out-r (
   rates-above-below t,
   rates-above.Post,
 ) (rates-above-at t) rates-above.Post
 rates-above-element-copy-out-r t c = search needs
 
--- src/sums.rt:34:9
 rates-above-rates-above-requires : (t : ℕ) → rates-above-lts.Need-rates-above-requires (
   rates-above-below t,
   rates-above.Post,
 ) (rates-above-at t) rates-above.Post
 rates-above-rates-above-requires t c κs = omega arith
 
--- src/sums.rt:34:30
 rates-above-cast-result : (t : ℕ) → rates-above-lts.Need-cast-result (
   rates-above-below t,
   rates-above.Post,
 ) (rates-above-at t) rates-above.Post
 rates-above-cast-result t c = search needs
 
--- src/sums.rt:34:9
 rates-above-add-result : (t : ℕ) → rates-above-lts.Need-add-result (
   rates-above-below t,
   rates-above.Post,
 ) (rates-above-at t) rates-above.Post
 rates-above-add-result t c = search needs
 
--- src/sums.rt:24:1
 rates-above-returns : (t : ℕ) → rates-above-lts.Need-returns (
   rates-above-below t,
   rates-above.Post,
@@ -81,7 +71,6 @@ rates-above-returns : (t : ℕ) → rates-above-lts.Need-returns (
 unfolding total
 rates-above-returns t c = (rw (c .if1 .taken), omega arith)
 
--- src/sums.rt:24:1
 rates-above-returns-2 : (t : ℕ) → rates-above-lts.Need-returns-2 (
   rates-above-below t,
   rates-above.Post,

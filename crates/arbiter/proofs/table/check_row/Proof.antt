@@ -1,71 +1,54 @@
-use mathlib.Core.Path.{_≡_, refl, sym, _∙_}
+use mathlib.Core.Path.{sym, _∙_}
 use borrow.Author.Tests.{not-true, not-false}
+use borrow.Author.Needs.{needs}
 use Rattle.arbiter.specs.Refusals.{gate}
 use Rattle.arbiter.specs.Table.{rowVerdict}
-use borrow.Author.Needs.{needs}
 use Rattle.arbiter.proofs.table.check_row.Statement.{statement}
 use Rattle.arbiter.proofs.table.check_row.Tie as tie
-use Rattle.arbiter.proofs.table.check_row.Reads as reads
-use Rattle.arbiter.proofs.table.check_row.Lts as lts
-use Rattle.arbiter.proofs.table.in_range.Reads as in-range-reads
 
--- src/table.rt:81:31
 cast-in-range : tie.Need-cast-in-range
 cast-in-range c = search needs
 
--- src/table.rt:81:9
 in-range-requires : tie.Need-in-range-requires
 in-range-requires c κs = search needs
 
--- src/table.rt:82:9
 returns : tie.Need-returns
 unfolding rowVerdict gate
 returns c = rw (sym (c .before .in-range .ensures) ∙ not-true _ (c .if1 .taken))
 
--- src/table.rt:84:28
 cast-in-range-2 : tie.Need-cast-in-range-2
 cast-in-range-2 c = search needs
 
--- src/table.rt:84:55
 cast-in-range-3 : tie.Need-cast-in-range-3
 cast-in-range-3 c = search needs
 
--- src/table.rt:84:9
 in-range-requires-2 : tie.Need-in-range-requires-2
 in-range-requires-2 c κs = search needs
 
--- src/table.rt:85:9
 returns-2 : tie.Need-returns-2
 unfolding rowVerdict gate
 returns-2 c = rw (sym (c .before .before .before .before .in-range .ensures) ∙ not-false _ (c .before .before .before .if1 .left), sym (c .before .in-range2 .ensures) ∙ not-true _ (c .if2 .taken))
 
--- src/table.rt:87:21
 cast-in-range-4 : tie.Need-cast-in-range-4
 cast-in-range-4 c = search needs
 
--- src/table.rt:87:47
 cast-in-range-5 : tie.Need-cast-in-range-5
 cast-in-range-5 c = search needs
 
--- src/table.rt:87:9
 in-range-requires-3 : tie.Need-in-range-requires-3
 in-range-requires-3 c κs = search needs
 
--- src/table.rt:88:9
 returns-3 : tie.Need-returns-3
 unfolding rowVerdict gate
 returns-3 c = rw (sym (c .before .before .before .before .before .before .before .in-range .ensures) ∙ not-false _ (c .before .before .before .before .before .before .if1 .left), sym (c .before .before .before .before .in-range2 .ensures) ∙ not-false _ (c .before .before .before .if2 .left), sym (c .before .in-range3 .ensures) ∙ not-true _ (c .if3 .taken))
 
--- src/table.rt:90:9
 in-range-requires-4 : tie.Need-in-range-requires-4
 in-range-requires-4 c κs = search needs
 
--- src/table.rt:91:9
 returns-4 : tie.Need-returns-4
 unfolding rowVerdict gate
 returns-4 c = rw (sym (c .before .before .before .before .before .before .before .before .before .in-range .ensures) ∙ not-false _ (c .before .before .before .before .before .before .before .before .if1 .left), sym (c .before .before .before .before .before .before .in-range2 .ensures) ∙ not-false _ (c .before .before .before .before .before .if2 .left), sym (c .before .before .before .in-range3 .ensures) ∙ not-false _ (c .before .before .if3 .left), sym (c .before .in-range4 .ensures) ∙ not-true _ (c .if4 .taken))
 
--- src/table.rt:76:1
 returns-5 : tie.Need-returns-5
 unfolding rowVerdict gate
 returns-5 c = rw (sym (c .before .before .before .before .before .before .before .before .before .in-range .ensures) ∙ not-false _ (c .before .before .before .before .before .before .before .before .if1 .left), sym (c .before .before .before .before .before .before .in-range2 .ensures) ∙ not-false _ (c .before .before .before .before .before .if2 .left), sym (c .before .before .before .in-range3 .ensures) ∙ not-false _ (c .before .before .if3 .left), sym (c .before .in-range4 .ensures) ∙ not-false _ (c .if4 .left))

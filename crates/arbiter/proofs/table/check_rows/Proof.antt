@@ -1,7 +1,6 @@
 use mathlib.Core.Path.{_≡_, refl, ap, sym, _∙_}
-use Prim.Native.Nat.{ℕ, _+_, _-_, _≤_, _<_}
+use Prim.Native.Nat.{_-_, _≤_}
 use native.Mathlib.Omega.{arith}
-use borrow.Author.Needs.{needs}
 use lib.ListN.{length, length-map, take, drop}
 use Rattle.arbiter.specs.Limits.{maxPlaces}
 use Rattle.arbiter.specs.Refusals.{verdictOf}
@@ -9,9 +8,6 @@ use Rattle.arbiter.specs.Table.{rowVerdict, eachPlace}
 use Rattle.arbiter.proofs.Places.{each-pass, each-stop, each-end}
 use Rattle.arbiter.proofs.table.check_rows.Statement.{statement}
 use Rattle.arbiter.proofs.table.check_rows.Tie as tie
-use Rattle.arbiter.proofs.table.check_rows.Reads as reads
-use Rattle.arbiter.proofs.table.check_rows.Lts as lts
-use Rattle.arbiter.proofs.table.check_row.Reads as check-row-reads
 
 abbrev Inv-loop : tie.InvT-loop
 Inv-loop t d n p₀ p = (p ≤ n) × (eachPlace (rowVerdict d) 0 (take n (t .requestors)) ≡ eachPlace (rowVerdict d) p (drop p (take n (t .requestors))))
@@ -23,35 +19,27 @@ abbrev μ-loop : tie.MeasureT-loop
 long : (c : tie.Start Inv-loop μ-loop) → length (c .args .t1 .requestors) ≡ maxPlaces
 long c = sym (length-map (c .args .t1 .requestors) _) ∙ c .good .0 .1 .1 .1 .1 .0 .1 .0 .1
 
--- src/table.rt:104:9
 loop-holds : tie.Need-loop-holds Inv-loop μ-loop
 loop-holds c = (omega arith, refl)
 
--- src/table.rt:108:17
 mul-r : tie.Need-mul-r Inv-loop μ-loop
 mul-r c = omega arith
 
--- src/table.rt:108:17
 element-copy-out-r : tie.Need-element-copy-out-r Inv-loop μ-loop
 element-copy-out-r c = omega arith
 
--- src/table.rt:109:13
 check-row-requires : tie.Need-check-row-requires Inv-loop μ-loop
 check-row-requires c κs = omega arith
 
--- src/table.rt:112:21
 enum-told : tie.Need-enum-told Inv-loop μ-loop
 enum-told c = omega arith
 
--- src/table.rt:112:21
 add-p : tie.Need-add-p Inv-loop μ-loop
 add-p c = omega arith
 
--- src/table.rt:104:9
 loop-less : tie.Need-loop-less Inv-loop μ-loop
 loop-less c = omega arith
 
--- src/table.rt:104:9
 loop-again : tie.Need-loop-again Inv-loop μ-loop
 loop-again c = 
     let a = c .before .before .before .before .before .before in
@@ -59,18 +47,15 @@ loop-again c =
     let e = sym (c .before .before .check-row .ensures) ∙ ap verdictOf (c .enum-told .given .1) in
     (omega arith, l .inv .1 ∙ each-pass (rowVerdict (a .args .t1 .denominator)) (a .args .t1 .requestors) (a .args .t1 .count) (l .p) (omega (arith, long a)) (omega arith) e)
 
--- src/table.rt:115:23
 enum-told-2 : tie.Need-enum-told-2 Inv-loop μ-loop
 enum-told-2 c = omega arith
 
--- src/table.rt:97:1
 returns : tie.Need-returns Inv-loop μ-loop
 returns c = 
     let a = c .before .before in
     let l = c .before .loop in
     sym (l .inv .1 ∙ each-end (rowVerdict (a .args .t1 .denominator)) (a .args .t1 .requestors) (a .args .t1 .count) (l .p) (omega arith))
 
--- src/table.rt:97:1
 returns-2 : tie.Need-returns-2 Inv-loop μ-loop
 returns-2 c = 
     let a = c .before .before .before .before .before .before in

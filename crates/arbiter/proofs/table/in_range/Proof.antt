@@ -1,14 +1,10 @@
 use borrow.Author.Tests.{lt-leb, le-leb}
 use Rattle.arbiter.proofs.table.in_range.Statement.{statement}
 use Rattle.arbiter.proofs.table.in_range.Tie as tie
-use Rattle.arbiter.proofs.table.in_range.Reads as reads
-use Rattle.arbiter.proofs.table.in_range.Lts as lts
 
--- src/table.rt:37:9
 returns : tie.Need-returns
 returns c = simp (lt-leb _ _ (c .if1 .taken))
 
--- src/table.rt:33:1
 returns-2 : tie.Need-returns-2
 returns-2 c = simp (le-leb _ _ (c .if1 .left))
 

@@ -1,22 +1,16 @@
 use borrow.Author.Tests.{eq-eqb, ne-eqb}
 use Rattle.arbiter.proofs.table.is_clear.Statement.{statement}
 use Rattle.arbiter.proofs.table.is_clear.Tie as tie
-use Rattle.arbiter.proofs.table.is_clear.Reads as reads
-use Rattle.arbiter.proofs.table.is_clear.Lts as lts
 
--- src/table.rt:48:9
 returns : tie.Need-returns
 returns c = simp (ne-eqb _ _ (c .if1 .taken))
 
--- src/table.rt:51:9
 returns-2 : tie.Need-returns-2
 returns-2 c = simp (eq-eqb _ _ (c .before .before .if1 .left), ne-eqb _ _ (c .if2 .taken))
 
--- src/table.rt:54:9
 returns-3 : tie.Need-returns-3
 returns-3 c = simp (eq-eqb _ _ (c .before .before .before .before .if1 .left), eq-eqb _ _ (c .before .before .if2 .left), ne-eqb _ _ (c .if3 .taken))
 
--- src/table.rt:42:1
 returns-4 : tie.Need-returns-4
 returns-4 c = simp (eq-eqb _ _ (c .before .before .before .before .before .if1 .left), eq-eqb _ _ (c .before .before .before .if2 .left), eq-eqb _ _ (c .before .if3 .left))
 

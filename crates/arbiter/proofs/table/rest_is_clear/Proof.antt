@@ -1,18 +1,14 @@
-use mathlib.Core.Path.{_≡_, refl, ap, sym, _∙_}
-use Prim.Native.Nat.{ℕ, _+_, _-_, _≤_, _<_}
+use mathlib.Core.Path.{_≡_, refl, sym, _∙_}
+use Prim.Native.Nat.{_-_, _≤_}
 use native.Mathlib.Omega.{arith}
-use borrow.Author.Needs.{needs}
-use lib.ListN.{length, length-map, take, drop}
 use borrow.Author.Tests.{not-true, not-false}
+use lib.ListN.{length, length-map, drop}
 use Rattle.lists.specs.Sums.{every}
 use Rattle.lists.proofs.Tests.{every-pass, every-stop, every-end}
 use Rattle.arbiter.specs.Limits.{maxPlaces}
 use Rattle.arbiter.specs.Table.{noRequestor, requestorClear}
 use Rattle.arbiter.proofs.table.rest_is_clear.Statement.{statement}
 use Rattle.arbiter.proofs.table.rest_is_clear.Tie as tie
-use Rattle.arbiter.proofs.table.rest_is_clear.Reads as reads
-use Rattle.arbiter.proofs.table.rest_is_clear.Lts as lts
-use Rattle.arbiter.proofs.table.is_clear.Reads as is-clear-reads
 
 abbrev Inv-loop : tie.InvT-loop
 Inv-loop t p₀ p = (p ≤ maxPlaces) × (every requestorClear (drop p₀ (t .requestors)) ≡ every requestorClear (drop p (t .requestors)))
@@ -24,45 +20,36 @@ abbrev μ-loop : tie.MeasureT-loop
 long : (c : tie.Start Inv-loop μ-loop) → length (c .args .t1 .requestors) ≡ maxPlaces
 long c = sym (length-map (c .args .t1 .requestors) _) ∙ c .good .0 .1 .1 .1 .1 .0 .1 .0 .1
 
--- src/table.rt:65:5
 loop-holds : tie.Need-loop-holds Inv-loop μ-loop
 loop-holds c = (c .pre, refl)
 
--- src/table.rt:66:17
 mul-r : tie.Need-mul-r Inv-loop μ-loop
 mul-r c = omega arith
 
--- src/table.rt:66:17
 element-copy-out-r : tie.Need-element-copy-out-r Inv-loop μ-loop
 element-copy-out-r c = omega arith
 
--- src/table.rt:67:13
 is-clear-requires : tie.Need-is-clear-requires Inv-loop μ-loop
 is-clear-requires c κs = omega arith
 
--- src/table.rt:68:13
 returns : tie.Need-returns Inv-loop μ-loop
 returns c = 
     let a = c .before .before .before .before .before in
     let l = c .before .before .before .before .loop in
     sym (l .inv .1 ∙ every-stop requestorClear noRequestor (a .args .t1 .requestors) (l .p) (omega (arith, long a)) (sym (c .before .is-clear .ensures) ∙ not-true _ (c .if1 .taken)))
 
--- src/table.rt:70:13
 add-p : tie.Need-add-p Inv-loop μ-loop
 add-p c = omega arith
 
--- src/table.rt:65:5
 loop-less : tie.Need-loop-less Inv-loop μ-loop
 loop-less c = omega arith
 
--- src/table.rt:65:5
 loop-again : tie.Need-loop-again Inv-loop μ-loop
 loop-again c = 
     let a = c .before .before .before .before .before in
     let l = c .before .before .before .before .loop in
     (omega arith, l .inv .1 ∙ every-pass requestorClear noRequestor (a .args .t1 .requestors) (l .p) (omega (arith, long a)) (sym (c .before .is-clear .ensures) ∙ not-false _ (c .if1 .left)))
 
--- src/table.rt:60:1
 returns-2 : tie.Need-returns-2 Inv-loop μ-loop
 returns-2 c = 
     let a = c .before .before in

@@ -1,22 +1,17 @@
-use mathlib.Core.Path.{_≡_, refl, ap, sym, _∙_}
-use Prim.Native.Nat.{ℕ, _+_, _-_, _≤_, _<_}
+use mathlib.Core.Path.{sym, _∙_}
+use Prim.Native.Nat.{_+_, _≤_, _<_}
 use native.Mathlib.Omega.{arith}
-use lib.ListN.{length-map}
-use mathlib.Core.Bool.{true}
 use borrow.Author.Tests.{not-true, not-false, lt-ltb, le-ltb, lt-leb, le-leb}
+use borrow.Author.Needs.{needs}
+use lib.ListN.{length-map}
 use Rattle.arbiter.specs.Limits.{maxPlaces, maxBacklog}
 use Rattle.arbiter.specs.Refusals.{gate}
 use Rattle.arbiter.specs.State.{backlog, accountAt}
 use Rattle.arbiter.proofs.Sound.{sound-open}
 use Rattle.calls.specs.Calls.{more, filled, done, ruleVerdict, called}
 use Rattle.calls.proofs.Room.{places-fit}
-use borrow.Author.Needs.{needs}
 use Rattle.calls.proofs.post.post.Statement.{statement}
 use Rattle.calls.proofs.post.post.Tie as tie
-use Rattle.calls.proofs.post.post.Reads as reads
-use Rattle.calls.proofs.post.post.Lts as lts
-use Rattle.arbiter.proofs.state.Arbiter.is_sound.Reads as is-sound-reads
-use Rattle.calls.proofs.post.refuse.Reads as refuse-reads
 
 -- a place below N of a sound state: its index fits the arrays, and its backlog is within the limit
 inside : (c : tie.Else2) → (c .before .before .before .before .args .place < maxPlaces)
@@ -31,64 +26,50 @@ inside c =
         (sym (c .before .before .before .is-sound .ensures) ∙ not-false _ (c .before .before .if1 .left)) in
     (omega (arith, places-fit s v, c .if2 .left), v .backlog-most (a .args .place) (c .if2 .left))
 
--- src/post.rt:35:9
 is-sound-requires : tie.Need-is-sound-requires
 is-sound-requires c κs = search needs
 
--- src/post.rt:36:9
 refuse-requires : tie.Need-refuse-requires
 refuse-requires c κs = search needs
 
--- src/post.rt:36:9
 returns : tie.Need-returns
 unfolding called gate
 returns c = rw (sym (c .before .before .is-sound .ensures) ∙ not-true _ (c .before .if1 .taken)) (c .refuse .ensures)
 
--- src/post.rt:41:9
 refuse-requires-2 : tie.Need-refuse-requires-2
 refuse-requires-2 c κs = search needs
 
--- src/post.rt:41:9
 returns-2 : tie.Need-returns-2
 unfolding called ruleVerdict gate
 returns-2 c = rw (sym (c .before .before .before .before .is-sound .ensures) ∙ not-false _ (c .before .before .before .if1 .left), le-ltb _ _ (c .before .if2 .taken)) (c .refuse2 .ensures)
 
--- src/post.rt:43:13
 mul-a : tie.Need-mul-a
 mul-a c = omega (arith, inside c .0)
 
--- src/post.rt:43:13
 element-copy-out-a : tie.Need-element-copy-out-a
 element-copy-out-a c = omega (arith, inside c .0)
 
--- src/post.rt:46:8
 sub-if3 : tie.Need-sub-if3
 sub-if3 c = inside (c .before .before .before) .1
 
--- src/post.rt:47:9
 refuse-requires-3 : tie.Need-refuse-requires-3
 refuse-requires-3 c κs = search needs
 
--- src/post.rt:47:9
 returns-3 : tie.Need-returns-3
 unfolding called ruleVerdict gate
 returns-3 c = 
     let a = (c .before .before .before .before .before .before .before .before .before .before) .args in
     rw (sym (c .before .before .before .before .before .before .before .before .before .is-sound .ensures) ∙ not-false _ (c .before .before .before .before .before .before .before .before .if1 .left), lt-ltb _ _ (c .before .before .before .before .before .before .if2 .left), lt-leb (backlog (accountAt (a .place) (a .t1 .accounts)) + a .count .0) maxBacklog (omega (arith, c .before .if3 .taken))) (c .refuse3 .ensures)
 
--- src/post.rt:50:75
 add-t23 : tie.Need-add-t23
 add-t23 c = omega (arith, inside (c .before .before .before .before .before .before .before) .1, c .before .before .if3 .left)
 
--- src/post.rt:50:5
 mul-t19 : tie.Need-mul-t19
 mul-t19 c = omega (arith, inside (c .before .before .before .before .before .before .before) .0)
 
--- src/post.rt:50:5
 element-set-from-next : tie.Need-element-set-from-next
 element-set-from-next c = omega (arith, inside (c .before .before .before .before .before .before .before) .0)
 
--- src/post.rt:32:1
 returns-4 : tie.Need-returns-4
 unfolding called ruleVerdict gate done filled more
 returns-4 c = 

@@ -1,45 +1,32 @@
-use mathlib.Core.Path.{_≡_, sym, ap, _∙_}
 use borrow.Author.Tests.{eq-eqb, ne-eqb}
-use Rattle.calls.specs.Places.{names, accountAfter}
 use borrow.Author.Needs.{needs}
+use Rattle.calls.specs.Places.{accountAfter}
 use Rattle.calls.proofs.slot.account_after.Statement.{statement}
 use Rattle.calls.proofs.slot.account_after.Tie as tie
-use Rattle.calls.proofs.slot.account_after.Reads as reads
-use Rattle.calls.proofs.slot.account_after.Lts as lts
-use Rattle.calls.proofs.slot.pass.Reads as pass-reads
-use Rattle.calls.proofs.slot.serve.Reads as serve-reads
 
--- src/slot.rt:99:26
 enum-told : tie.Need-enum-told
 enum-told c = search needs
 
--- src/slot.rt:99:26
 pass-requires : tie.Need-pass-requires
 pass-requires c κs = search needs
 
--- src/slot.rt:100:22
 enum-known-g : tie.Need-enum-known-g
 enum-known-g c = search needs
 
--- src/slot.rt:102:17
 serve-requires : tie.Need-serve-requires
 serve-requires c κs = ((c .before .before .before .before) .pre .0, (c .before .before .before .before) .pre .1 (rw (c .before .before .g .given .1) (eq-eqb _ _ (c .if1 .taken))))
 
--- src/slot.rt:104:17
 pass-requires-2 : tie.Need-pass-requires-2
 pass-requires-2 c κs = search needs
 
--- src/slot.rt:94:1
 returns : tie.Need-returns
 unfolding accountAfter
 returns c = rw (c .before .enum-told .given .1) (c .pass .ensures)
 
--- src/slot.rt:94:1
 returns-2 : tie.Need-returns-2
 unfolding accountAfter
 returns-2 c = rw (c .before .before .before .g .given .1, eq-eqb _ _ (c .before .if1 .taken)) (c .serve .ensures)
 
--- src/slot.rt:94:1
 returns-3 : tie.Need-returns-3
 unfolding accountAfter
 returns-3 c = rw (c .before .before .before .g .given .1, ne-eqb _ _ (c .before .if1 .left)) (c .pass2 .ensures)

@@ -1,25 +1,18 @@
-use mathlib.Core.Path.{_≡_, refl, ap, sym, _∙_}
-use Prim.Native.Nat.{ℕ, _+_, _-_, _≤_, _<_}
-use native.Mathlib.Omega.{arith}
-use borrow.Author.Needs.{needs}
-use lib.ListN.{length, length-map, take}
+use mathlib.Core.Path.{_≡_, ap, sym, _∙_}
 use mathlib.Core.Bool.{true}
+use Prim.Native.Nat.{_-_, _≤_}
+use native.Mathlib.Omega.{arith}
+use lib.ListN.{length-map, take}
 use Rattle.arbiter.specs.Limits.{maxPlaces}
-use Rattle.arbiter.specs.State.{sound}
+use Rattle.arbiter.specs.State.{sound, accountAt}
 use Rattle.arbiter.proofs.Sound.{Sound, sound-open}
 use Rattle.calls.proofs.Room.{places-fit, sum-fits}
-use Rattle.calls.specs.declared.slot.Grant.{Grant}
-use Rattle.arbiter.specs.declared.state.Account.{Account}
-use Rattle.arbiter.specs.State.{requestorAt, accountAt}
 use Rattle.calls.specs.Rule.{after}
 use Rattle.calls.specs.Calls.{grantOf, advanced}
 use Rattle.calls.proofs.Search.{named-eligible}
 use Rattle.calls.proofs.Updates.{after-none, after-next, after-more}
 use Rattle.calls.proofs.slot.advance.Statement.{statement}
 use Rattle.calls.proofs.slot.advance.Tie as tie
-use Rattle.calls.proofs.slot.advance.Reads as reads
-use Rattle.calls.proofs.slot.advance.Lts as lts
-use Rattle.calls.proofs.slot.account_after.Reads as account-after-reads
 
 abbrev Inv-loop : tie.InvT-loop
 Inv-loop g t d n at accounts₀ p₀ accounts p = (p ≤ n) × (accounts ≡ after d g (take p (t .requestors)) accounts₀)
@@ -34,27 +27,21 @@ sound-here c =
     (sym (length-map (c .args .s .table .requestors) _) ∙ c .good .0 .1 .1 .0 .1 .1 .1 .1 .0 .1 .0 .1)
     (sym (length-map (c .args .s .accounts) _) ∙ c .good .0 .1 .1 .1 .1 .0 .1 .0 .1)
 
--- src/slot.rt:121:5
 loop-holds : tie.Need-loop-holds Inv-loop μ-loop
 loop-holds c = let a = (c .before .before .before) .args in (omega arith, after-none (a .s .table .denominator) (a .g) (a .s .table .requestors) (a .s .accounts))
 
--- src/slot.rt:122:17
 mul-r : tie.Need-mul-r Inv-loop μ-loop
 mul-r c = omega (arith, places-fit _ (sound-here (c .before .before .before .before .before) ((c .before .before .before .before .before) .pre .0)))
 
--- src/slot.rt:122:17
 element-copy-out-r : tie.Need-element-copy-out-r Inv-loop μ-loop
 element-copy-out-r c = omega (arith, places-fit _ (sound-here (c .before .before .before .before .before) ((c .before .before .before .before .before) .pre .0)))
 
--- src/slot.rt:123:17
 mul-a : tie.Need-mul-a Inv-loop μ-loop
 mul-a c = omega (arith, places-fit _ (sound-here (c .before .before .before .before .before .before) ((c .before .before .before .before .before .before) .pre .0)))
 
--- src/slot.rt:123:17
 array-copy-out-a : tie.Need-array-copy-out-a Inv-loop μ-loop
 array-copy-out-a c = omega (arith, places-fit _ (sound-here (c .before .before .before .before .before .before) ((c .before .before .before .before .before .before) .pre .0)))
 
--- src/slot.rt:124:23
 account-after-requires : tie.Need-account-after-requires Inv-loop μ-loop
 unfolding grantOf
 account-after-requires c κs = 
@@ -67,23 +54,18 @@ account-after-requires c κs =
     (sum-fits s v (l .p) (omega arith),
       named-eligible (s .table .denominator) (s .table .count) (l .p) (s .table .requestors) (s .accounts) (a .args .g) (omega arith) (a .pre .2))
 
--- src/slot.rt:124:9
 mul-accounts : tie.Need-mul-accounts Inv-loop μ-loop
 mul-accounts c = omega (arith, places-fit _ (sound-here (c .before .before .before .before .before .before .before .before) ((c .before .before .before .before .before .before .before .before) .pre .0)))
 
--- src/slot.rt:124:9
 array-set-from-accounts : tie.Need-array-set-from-accounts Inv-loop μ-loop
 array-set-from-accounts c = omega (arith, places-fit _ (sound-here (c .before .before .before .before .before .before .before .before) ((c .before .before .before .before .before .before .before .before) .pre .0)))
 
--- src/slot.rt:125:13
 add-p : tie.Need-add-p Inv-loop μ-loop
 add-p c = omega arith
 
--- src/slot.rt:121:5
 loop-less : tie.Need-loop-less Inv-loop μ-loop
 loop-less c = omega arith
 
--- src/slot.rt:121:5
 loop-again : tie.Need-loop-again Inv-loop μ-loop
 loop-again c = 
     let a = (c .before .before .before .before .before .before .before .before) in
@@ -94,11 +76,9 @@ loop-again c =
       after-more (s .table .denominator) (a .args .g) (l .p) (s .table .requestors) (s .accounts) (l .accounts) (c .account-after .result)
         (omega (arith, v .rows, places-fit s v)) (l .inv .1) (c .account-after .ensures))
 
--- src/slot.rt:127:37
 add-t22 : tie.Need-add-t22 Inv-loop μ-loop
 add-t22 c = omega arith
 
--- src/slot.rt:111:1
 returns : tie.Need-returns Inv-loop μ-loop
 unfolding advanced
 returns c = 

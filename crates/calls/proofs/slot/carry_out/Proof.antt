@@ -1,45 +1,35 @@
-use mathlib.Core.Path.{_≡_, refl, ap, sym, _∙_}
+use mathlib.Core.Path.{_≡_, ap, sym, _∙_}
+use borrow.Author.Needs.{needs}
 use Rattle.lists.specs.Runs.{Result}
 use Rattle.arbiter.specs.declared.state.Arbiter.{Arbiter}
 use Rattle.arbiter.specs.Answers.{Answer}
 use Rattle.calls.specs.declared.slot.Grant.{Grant}
 use Rattle.calls.specs.Calls.{slot, grantOf, advanced, slotAnswer, done}
-use borrow.Author.Needs.{needs}
 use Rattle.calls.proofs.slot.carry_out.Statement.{statement}
 use Rattle.calls.proofs.slot.carry_out.Tie as tie
-use Rattle.calls.proofs.slot.carry_out.Reads as reads
-use Rattle.calls.proofs.slot.carry_out.Lts as lts
-use Rattle.calls.proofs.slot.advance.Reads as advance-reads
-use Rattle.calls.proofs.slot.find.Reads as find-reads
 
 -- the state after the grant, and the answer for it, are what an accepted slot does
 carried : (s next : Arbiter) (g : Grant) → g ≡ grantOf s → next ≡ advanced s g → _≡_ {A = Result Arbiter Answer} (record { state = next; answer = slotAnswer (s .slot .0) g }) (done s slot)
 unfolding done
 carried s next g e f = rw (f, e)
 
--- src/slot.rt:136:9
 find-requires : tie.Need-find-requires
 find-requires c κs = search needs
 
--- src/slot.rt:137:9
 advance-requires : tie.Need-advance-requires
 advance-requires c κs = ((c .before .before) .pre .0, (c .before .before) .pre .1, c .find .ensures)
 
--- src/slot.rt:139:57
 enum-told : tie.Need-enum-told
 enum-told c = search needs
 
--- src/slot.rt:140:22
 enum-known-g : tie.Need-enum-known-g
 enum-known-g c = search needs
 
--- src/slot.rt:131:1
 returns : tie.Need-returns
 returns c = 
     let e = c .enum-told .given .1 in
     carried ((c .before .before .before .before .before) .args .s) (c .before .before .advance .result) _ (sym e ∙ c .before .before .before .find .ensures) (c .before .before .advance .ensures ∙ ap (advanced ((c .before .before .before .before .before) .args .s)) e)
 
--- src/slot.rt:131:1
 returns-2 : tie.Need-returns-2
 returns-2 c = 
     let e = c .before .g .given .1 in

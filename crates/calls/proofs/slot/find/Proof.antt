@@ -1,21 +1,17 @@
-use mathlib.Core.Path.{_≡_, refl, ap, sym, _∙_}
-use Prim.Native.Nat.{ℕ, _+_, _-_, _≤_, _<_}
-use native.Mathlib.Omega.{arith}
-use borrow.Author.Needs.{needs}
-use lib.ListN.{length, length-map, take}
+use mathlib.Core.Path.{_≡_, sym, _∙_}
 use mathlib.Core.Bool.{true}
+use Prim.Native.Nat.{_-_, _≤_}
+use native.Mathlib.Omega.{arith}
+use native.Mathlib.Nat.{not-suc-le-zero}
+use lib.ListN.{length-map}
 use Rattle.arbiter.specs.Limits.{maxPlaces}
 use Rattle.arbiter.specs.State.{sound}
 use Rattle.arbiter.proofs.Sound.{Sound, sound-open}
 use Rattle.calls.proofs.Room.{places-fit, sum-fits}
-use native.Mathlib.Nat.{not-suc-le-zero}
 use Rattle.calls.specs.Calls.{grantOf}
 use Rattle.calls.proofs.Search.{NoneBefore, none-more, first-at, first-none}
 use Rattle.calls.proofs.slot.find.Statement.{statement}
 use Rattle.calls.proofs.slot.find.Tie as tie
-use Rattle.calls.proofs.slot.find.Reads as reads
-use Rattle.calls.proofs.slot.find.Lts as lts
-use Rattle.calls.proofs.slot.is_eligible.Reads as is-eligible-reads
 
 abbrev Inv-loop : tie.InvT-loop
 Inv-loop s t d n p₀ p = (p ≤ n) × NoneBefore d (t .requestors) (s .accounts) p
@@ -30,52 +26,41 @@ sound-here c =
     (sym (length-map (c .args .t1 .table .requestors) _) ∙ c .good .0 .1 .1 .0 .1 .1 .1 .1 .0 .1 .0 .1)
     (sym (length-map (c .args .t1 .accounts) _) ∙ c .good .0 .1 .1 .1 .1 .0 .1 .0 .1)
 
--- src/slot.rt:55:9
 loop-holds : tie.Need-loop-holds Inv-loop μ-loop
 loop-holds c = (omega arith, λ i h. absurd (not-suc-le-zero h))
 
--- src/slot.rt:59:17
 mul-r : tie.Need-mul-r Inv-loop μ-loop
 mul-r c = omega (arith, places-fit _ (sound-here (c .before .before .before) ((c .before .before .before) .pre)))
 
--- src/slot.rt:59:17
 element-copy-out-r : tie.Need-element-copy-out-r Inv-loop μ-loop
 element-copy-out-r c = omega (arith, places-fit _ (sound-here (c .before .before .before) ((c .before .before .before) .pre)))
 
--- src/slot.rt:60:17
 mul-a : tie.Need-mul-a Inv-loop μ-loop
 mul-a c = omega (arith, places-fit _ (sound-here (c .before .before .before .before) ((c .before .before .before .before) .pre)))
 
--- src/slot.rt:60:17
 element-copy-out-a : tie.Need-element-copy-out-a Inv-loop μ-loop
 element-copy-out-a c = omega (arith, places-fit _ (sound-here (c .before .before .before .before) ((c .before .before .before .before) .pre)))
 
--- src/slot.rt:61:12
 is-eligible-requires : tie.Need-is-eligible-requires Inv-loop μ-loop
 is-eligible-requires c κs = sum-fits _ (sound-here (c .before .before .before .before .before) ((c .before .before .before .before .before) .pre)) (c .before .before .before .loop .p) (omega arith)
 
--- src/slot.rt:64:13
 add-p : tie.Need-add-p Inv-loop μ-loop
 add-p c = omega arith
 
--- src/slot.rt:55:9
 loop-less : tie.Need-loop-less Inv-loop μ-loop
 loop-less c = omega arith
 
--- src/slot.rt:55:9
 loop-again : tie.Need-loop-again Inv-loop μ-loop
 loop-again c = 
     let s = (c .before .before .before .before .before .before .before) .args .t1 in
     (omega arith, none-more (s .table .denominator) (s .table .requestors) (s .accounts) (c .before .before .before .before .before .loop .p) (c .before .before .before .before .before .loop .inv .1) (sym (c .before .is-eligible .ensures) ∙ c .if2 .left))
 
--- src/slot.rt:47:1
 returns : tie.Need-returns Inv-loop μ-loop
 unfolding grantOf
 returns c = 
     let s = (c .before .before .before) .args .t1 in
     sym (first-none (s .table .denominator) (s .table .count) (s .table .requestors) (s .accounts) (λ i h. c .before .loop .inv .1 i (omega arith)))
 
--- src/slot.rt:47:1
 returns-2 : tie.Need-returns-2 Inv-loop μ-loop
 unfolding grantOf
 returns-2 c = 

@@ -1,19 +1,14 @@
-use Rattle.calls.proofs.Accounts.{eligible-idle, eligible-waiting}
 use borrow.Author.Needs.{needs}
+use Rattle.calls.proofs.Accounts.{eligible-idle, eligible-waiting}
 use Rattle.calls.proofs.slot.is_eligible.Statement.{statement}
 use Rattle.calls.proofs.slot.is_eligible.Tie as tie
-use Rattle.calls.proofs.slot.is_eligible.Reads as reads
-use Rattle.calls.proofs.slot.is_eligible.Lts as lts
 
--- src/slot.rt:42:18
 add-raised : tie.Need-add-raised
 add-raised c = search needs
 
--- src/slot.rt:45:9
 returns : tie.Need-returns
 returns c = let a = (c .before .before .before .before) .args in eligible-idle (a .r) (a .a) (a .d) (c .if1 .taken)
 
--- src/slot.rt:37:1
 returns-2 : tie.Need-returns-2
 returns-2 c = let a = (c .before .before .before .before) .args in eligible-waiting (a .r) (a .a) (a .d) (c .if1 .left)
 
