@@ -40,4 +40,5 @@ above limit t p long ok h =
       rates = omega (arith, sum, total-take-drop rate (suc p) (places t), f .rate-sum);
       same-rates = ap (total rate) cut;
       same-bursts = ap (total burst) cut;
-      same-row = row }
+      same-row = row;
+    }

@@ -27,6 +27,16 @@ unfolding then
 then-open faultless rest e = (refl, e)
 then-open (fault r) rest e = let z : _≡_ {A = ℕ} 0 1 = cc in absurd (omega arith)
 
+pub gate-passed : (r : Refusal) (test : Bool) (rest : Verdict) → test ≡ true → gate r test rest ≡ rest
+unfolding gate
+gate-passed r test rest e = rw e
+
+-- a gate in front of checks is a check before them
+pub gate-then : (r : Refusal) (test : Bool) (rest : Verdict) → then (gate r test faultless) rest ≡ gate r test rest
+unfolding gate then
+gate-then r true rest = refl
+gate-then r false rest = refl
+
 -- a check that passes place by place passes at each place
 pub each-place-at : (check : ℕ → Requestor → Verdict) (p : ℕ) (rs : List Requestor) → eachPlace check p rs ≡ faultless
     → (i : ℕ) → i < length rs → check (p + i) (getD rs i noRequestor) ≡ faultless
@@ -58,8 +68,15 @@ row-open d p r e =
     let ne = in-range-true _ _ _ (c .0) in
     let wi = in-range-true _ _ _ (f .0) in
     record {
-      rate-least = ra .0; rate-most = ra .1; burst-least = bu .0; burst-most = bu .1;
-      need-least = ne .0; need-most = ne .1; within-least = wi .0; within-most = wi .1 }
+      rate-least = ra .0;
+      rate-most = ra .1;
+      burst-least = bu .0;
+      burst-most = bu .1;
+      need-least = ne .0;
+      need-most = ne .1;
+      within-least = wi .0;
+      within-most = wi .1;
+    }
 
 -- a table that passes checks 1 to 6
 pub record Fair (limit : ℕ) (t : Table) : Type 0 where
@@ -82,9 +99,14 @@ fair limit t e =
     let d = in-range-true _ _ _ (a .0) in
     let n = in-range-true _ _ _ (b .0) in
     record {
-      denominator-least = d .0; denominator-most = d .1; count-least = n .0; count-most = n .1; clear = c .0;
+      denominator-least = d .0;
+      denominator-most = d .1;
+      count-least = n .0;
+      count-most = n .1;
+      clear = c .0;
       row = λ p h. row-open _ (0 + p) _ (each-place-at (rowVerdict (t .denominator)) 0 (places t) (f .0) p h);
-      rate-sum = leb-true _ _ (g .0) }
+      rate-sum = leb-true _ _ (g .0);
+    }
 
 -- a table that passes admission: checks 1 to 6, and each need holds
 pub record Admitted (limit : ℕ) (t : Table) : Type 0 where
@@ -97,4 +119,5 @@ admitted limit t e =
     let a = then-open _ _ e in
     record {
       passes = a .0;
-      need = λ p h. leb-true _ _ (gate-open _ _ _ (rw (zero-add p) at (each-place-at (needVerdict (t .denominator) (places t)) 0 (places t) (a .1) p h)) .0) }
+      need = λ p h. leb-true _ _ (gate-open _ _ _ (rw (zero-add p) at (each-place-at (needVerdict (t .denominator) (places t)) 0 (places t) (a .1) p h)) .0);
+    }

@@ -73,9 +73,10 @@ module _ (n : ℕ) (rs : List Requestor) (accounts : List Account) where
   -- so the sums of the first N places and of fewer bound them all
   pub sums-past : every accountClear (drop n accounts) ≡ true → ((k : ℕ) → k ≤ n → total credit (take k accounts) ≤ total burst (take k rs))
       → (k : ℕ) → total credit (take k accounts) ≤ total burst (take k rs)
-  sums-past clear within k = elim (decLe k n)
-      [ yes h ↦ within k h
-      | no h ↦ omega (arith, within n (omega arith), credits-first n accounts clear, total-take-drop credit k accounts, total-take-rises burst n k rs (omega arith)) ]
+  sums-past clear within k = elim (decLe k n) [
+    | yes h ↦ within k h
+    | no h ↦ omega (arith, within n (omega arith), credits-first n accounts clear, total-take-drop credit k accounts, total-take-rises burst n k rs (omega arith))
+  ]
 
 -- the rates of any first k places
 pub rates-most : (limit : ℕ) (t : Table) → Fair limit t → (k : ℕ) → total rate (take k (places t)) ≤ t .denominator
@@ -99,10 +100,14 @@ module _ (limit : ℕ) (s : Arbiter) where
       let f = and-true (upTo (s .table .count) (creditsHold (s .table .requestors) (s .accounts))) _ (c .1) in
       let passes = is-faultless-true _ (a .0) in
       record {
-        rows = rows; accounts = accounts; passes = passes; slot-most = leb-true _ _ (b .0);
+        rows = rows;
+        accounts = accounts;
+        passes = passes;
+        slot-most = leb-true _ _ (b .0);
         backlog-most = backlogs-open _ _ (omega (arith, fair limit (s .table) passes .count-most)) (c .0);
         sums = sums-past _ _ _ (f .1) (sums-open _ _ _ (f .0));
-        clear = f .1 }
+        clear = f .1;
+      }
 
   pub sound-shut : Sound limit s → sound limit s ≡ true
   unfolding sound accountsSound
@@ -118,11 +123,15 @@ module _ (limit : ℕ) (s : Arbiter) where
 
     -- a blocked place's credit may pass its burst, and never `limit` times the largest one
     pub credit-most : (p : ℕ) → credit (accountAt p (s .accounts)) ≤ limit * maxBurst
-    credit-most p = omega (arith,
-        at-most-total credit noAccount refl p (s .accounts),
-        credits-first (s .table .count) (s .accounts) (v .clear), v .sums (s .table .count),
-        total-most burst noRequestor maxBurst (places (s .table)) (λ q h. sound-fair .row q h .burst-most),
-        places-length limit (s .table) (v .rows) sound-fair, mul-le-mul-right maxBurst (sound-fair .count-most))
+    credit-most p = omega (
+      arith,
+      at-most-total credit noAccount refl p (s .accounts),
+      credits-first (s .table .count) (s .accounts) (v .clear),
+      v .sums (s .table .count),
+      total-most burst noRequestor maxBurst (places (s .table)) (λ q h. sound-fair .row q h .burst-most),
+      places-length limit (s .table) (v .rows) sound-fair,
+      mul-le-mul-right maxBurst (sound-fair .count-most),
+    )
 
 -- the first account of each place: its credit is the burst, and it is clear where the row is
 fresh-clear : (n : ℕ) (rs : List Requestor) → every requestorClear (drop n rs) ≡ true → every accountClear (drop n (map fresh rs)) ≡ true
@@ -152,7 +161,11 @@ module _ (limit : ℕ) (t : Table) (first : ℕ) (e : startVerdict limit t first
   pub start-sound : length (t .requestors) ≡ limit → Sound limit (opening t first)
   unfolding opening
   start-sound rows = record {
-      rows = rows; accounts = length-map (t .requestors) fresh ∙ rows; passes = start-admitted .passes; slot-most = start-slot;
-      backlog-most = λ p h. omega (arith, opening-backlog t first p);
-      sums = λ k. omega (arith, total-take-map credit fresh k (t .requestors));
-      clear = fresh-clear (t .count) (t .requestors) (fair limit t (start-admitted .passes) .clear) }
+    rows = rows;
+    accounts = length-map (t .requestors) fresh ∙ rows;
+    passes = start-admitted .passes;
+    slot-most = start-slot;
+    backlog-most = λ p h. omega (arith, opening-backlog t first p);
+    sums = λ k. omega (arith, total-take-map credit fresh k (t .requestors));
+    clear = fresh-clear (t .count) (t .requestors) (fair limit t (start-admitted .passes) .clear);
+  }

@@ -1,10 +1,10 @@
 // Admission: the checks of a table given as numbers, 1 to 6 and then 7.
-use crate::refusals::Verdict;
+use crate::figures::finish;
 use crate::refusals::Cause;
 use crate::refusals::InputRefusal;
+use crate::refusals::Verdict;
 use crate::table::Table;
 use crate::table::check_table;
-use crate::figures::finish;
 ghost use mathlib.Core.Path.{_≡_};
 ghost use Prim.Native.Nat.{_<_};
 ghost use lib.ListN.{getD};

@@ -1,9 +1,9 @@
 // The wait and the finish figure of a place, in slots.
-use crate::units::Slots;
-use crate::units::Transfers;
-use crate::table::Table;
 use crate::sums::bursts_above;
 use crate::sums::rates_above;
+use crate::table::Table;
+use crate::units::Slots;
+use crate::units::Transfers;
 ghost use mathlib.Core.Path.{_≡_};
 ghost use Prim.Native.Nat.{ℕ, _+_, _≤_, _<_, _^_};
 ghost use Rattle.arbiter.specs.Limits.{maxPlaces};

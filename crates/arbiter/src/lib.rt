@@ -1,11 +1,11 @@
 // The arbiter's values: units, limits, refusals, the requestor table with its checks and figures, the state with test 23,
 // and start. What calls then do to a state stands in the crate calls.
 
-pub mod units;
-pub mod refusals;
-pub mod table;
-pub mod sums;
-pub mod figures;
 pub mod admission;
-pub mod state;
+pub mod figures;
+pub mod refusals;
 pub mod start;
+pub mod state;
+pub mod sums;
+pub mod table;
+pub mod units;

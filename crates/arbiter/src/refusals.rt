@@ -1,6 +1,6 @@
 // Why a call was refused: by its input or by the state it was handed, and inside what was wrong.
 ghost use mathlib.Core.Path.{_≡_};
-ghost use Rattle.arbiter.specs.Refusals.{inputNumber, inputPlace, stateNumber, refusalOf};
+ghost use Rattle.arbiter.specs.Refusals.{inputNumber, inputPlace, stateNumber, refusalOf, verdictOf, then};
 
 // Refusals 1 to 14. Those that name a place hold it.
 pub enum InputRefusal {
@@ -107,6 +107,16 @@ fn state_number(s: StateRefusal) -> u32
         StateRefusal::BacklogLimit => 21,
         StateRefusal::SlotLimit => 22,
         StateRefusal::Unsound => 23,
+    }
+}
+
+// The first fault of two series of checks.
+pub(crate) fn first_fault(a: Verdict, b: Verdict) -> Verdict
+    ensures { λ v. ⌜ verdictOf v ≡ then (verdictOf a) (verdictOf b) ⌝ }
+{
+    match a {
+        Verdict::Faultless => b,
+        Verdict::Fault(_) => a,
     }
 }
 

@@ -1,11 +1,11 @@
 // What a start answers, and the states it hands back.
-use crate::units::Slots;
-use crate::units::Transfers;
 use crate::refusals::Cause;
-use crate::table::Requestor;
-use crate::table::Table;
 use crate::state::Account;
 use crate::state::Arbiter;
+use crate::table::Requestor;
+use crate::table::Table;
+use crate::units::Slots;
+use crate::units::Transfers;
 ghost use mathlib.Core.Path.{_≡_};
 ghost use mathlib.Core.List.{map};
 ghost use Rattle.arbiter.specs.Limits.{maxPlaces};
@@ -27,12 +27,18 @@ pub struct Started {
 pub(crate) fn opening_accounts(t: Table) -> [Account; Arbiter::MAX_PLACES]
     ensures { λ r. ⌜ r ≡ map fresh (t .requestors) ⌝ }
 {
-    let empty = Account { credit: 0, backlog: Transfers(0) };
+    let empty = Account {
+        credit: 0,
+        backlog: Transfers(0),
+    };
     let mut accounts = [empty; Arbiter::MAX_PLACES];
     let mut p: usize = 0;
     while p < Arbiter::MAX_PLACES {
         let r = t.requestors[p];
-        accounts[p] = Account { credit: r.burst, backlog: Transfers(0) };
+        accounts[p] = Account {
+            credit: r.burst,
+            backlog: Transfers(0),
+        };
         p = p + 1;
     }
     accounts
@@ -42,16 +48,35 @@ pub(crate) fn opening_accounts(t: Table) -> [Account; Arbiter::MAX_PLACES]
 fn no_state() -> Arbiter
     ensures { λ r. ⌜ r ≡ noState maxPlaces ⌝ }
 {
-    let row = Requestor { rate: 0, burst: 0, need: Transfers(0), within: Slots(0) };
-    let empty = Account { credit: 0, backlog: Transfers(0) };
+    let row = Requestor {
+        rate: 0,
+        burst: 0,
+        need: Transfers(0),
+        within: Slots(0),
+    };
+    let empty = Account {
+        credit: 0,
+        backlog: Transfers(0),
+    };
     let rows = [row; Arbiter::MAX_PLACES];
-    let table = Table { denominator: 0, count: 0, requestors: rows };
-    Arbiter { table: table, slot: Slots(0), accounts: [empty; Arbiter::MAX_PLACES] }
+    let table = Table {
+        denominator: 0,
+        count: 0,
+        requestors: rows,
+    };
+    Arbiter {
+        table: table,
+        slot: Slots(0),
+        accounts: [empty; Arbiter::MAX_PLACES],
+    }
 }
 
 // A state whose every field is 0, and why.
 pub(crate) fn refuse(why: Cause) -> Started
     ensures { λ r. ⌜ resultOf r ≡ record { state = noState maxPlaces; answer = refused (refusalOf why) } ⌝ }
 {
-    Started { state: no_state(), answer: StartAnswer::Refused(why) }
+    Started {
+        state: no_state(),
+        answer: StartAnswer::Refused(why),
+    }
 }

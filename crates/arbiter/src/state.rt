@@ -1,16 +1,16 @@
 // The arbiter's state, its limits, test 23, and start.
-use crate::units::Slots;
-use crate::units::Transfers;
-use crate::refusals::Verdict;
+use crate::admission::admit;
 use crate::refusals::Cause;
 use crate::refusals::InputRefusal;
-use crate::table::Table;
-use crate::table::check_table;
-use crate::admission::admit;
-use crate::start::Started;
+use crate::refusals::Verdict;
 use crate::start::StartAnswer;
+use crate::start::Started;
 use crate::start::opening_accounts;
 use crate::start::refuse;
+use crate::table::Table;
+use crate::table::check_table;
+use crate::units::Slots;
+use crate::units::Transfers;
 ghost use mathlib.Core.Path.{_≡_};
 ghost use mathlib.Core.Bool.{_&&_};
 ghost use Prim.Native.Nat.{_≤_};
@@ -89,11 +89,17 @@ fn accounts_hold(s: Arbiter) -> bool
 
 impl Arbiter {
     pub const MAX_DENOMINATOR: u32 = 65535;
+
     pub const MAX_PLACES: usize = 16;
+
     pub const MAX_BURST: u32 = 16777216;
+
     pub const MAX_NEED: u32 = 255;
+
     pub const MAX_WITHIN: u64 = 1073741824;
+
     pub const MAX_BACKLOG: u32 = 65535;
+
     pub const MAX_SLOT: u64 = 4611686018427387904;
     // The bytes of a log or of the program's input.
     pub const MAX_INPUT: usize = 65536;
@@ -108,8 +114,7 @@ impl Arbiter {
         ensures { λ _. do ⌜ (← ⟦Arbiter::MAX_BACKLOG⟧ .entry) ≡ maxBacklog ⌝ }
         ensures { λ _. do ⌜ (← ⟦Arbiter::MAX_SLOT⟧ .entry) ≡ maxSlot ⌝ }
         ensures { λ _. do ⌜ (← ⟦Arbiter::MAX_INPUT⟧ .entry) ≡ maxInput ⌝ }
-    {
-    }
+    {}
 
     // Test 23: whether the state breaks no rule.
     pub fn is_sound(self) -> bool
@@ -144,7 +149,14 @@ impl Arbiter {
                     return refuse(Cause::Input(InputRefusal::FirstSlot));
                 }
                 let accounts = opening_accounts(t);
-                Started { state: Arbiter { table: t, slot: first, accounts: accounts }, answer: StartAnswer::Started }
+                Started {
+                    state: Arbiter {
+                        table: t,
+                        slot: first,
+                        accounts: accounts,
+                    },
+                    answer: StartAnswer::Started,
+                }
             }
         }
     }

@@ -1,19 +1,21 @@
 // The requestor table as numbers, and checks 1 to 6.
-use crate::units::Slots;
-use crate::units::Transfers;
-use crate::refusals::Verdict;
 use crate::refusals::Cause;
 use crate::refusals::InputRefusal;
+use crate::refusals::Verdict;
+use crate::refusals::first_fault;
 use crate::state::Arbiter;
 use crate::sums::rates_above;
+use crate::units::Slots;
+use crate::units::Transfers;
 ghost use mathlib.Core.Path.{_≡_};
 ghost use Prim.Native.Nat.{_≤_};
 ghost use lib.ListN.{drop};
 ghost use Rattle.lists.specs.Choices.{inRange};
-ghost use Rattle.lists.specs.Sums.{every};
+ghost use lib.Dec.{leb};
+ghost use Rattle.lists.specs.Sums.{total, every};
 ghost use Rattle.arbiter.specs.Limits.{maxPlaces};
-ghost use Rattle.arbiter.specs.Refusals.{verdictOf};
-ghost use Rattle.arbiter.specs.Table.{requestorClear, places, rowVerdict, eachPlace, tableVerdict};
+ghost use Rattle.arbiter.specs.Refusals.{verdictOf, faultless, refusal, gate};
+ghost use Rattle.arbiter.specs.Table.{rate, requestorClear, places, rowVerdict, eachPlace, tableVerdict};
 
 // One row of the table: the rate n, the burst b, and the need of j transfers within L slots.
 pub struct Requestor {
@@ -119,6 +121,30 @@ fn check_rows(t: Table) -> Verdict
     v
 }
 
+// The part of check 2 that looks past place N-1.
+fn check_tail(t: Table) -> Verdict
+    requires { ⌜ t .count ≤ maxPlaces ⌝ }
+    ensures { λ v. ⌜ verdictOf v ≡ gate (refusal 2) (every requestorClear (drop (t .count) (t .requestors))) faultless ⌝ }
+{
+    if rest_is_clear(t) {
+        return Verdict::Faultless;
+    }
+    Verdict::Fault(Cause::Input(InputRefusal::Count))
+}
+
+// Check 6.
+fn check_rate_sum(t: Table) -> Verdict
+    requires { ⌜ t .count ≤ maxPlaces ⌝ }
+    ensures { λ v. ⌜ verdictOf v ≡ gate (refusal 6) (leb (total rate (places t)) (t .denominator)) faultless ⌝ }
+{
+    let d = t.denominator;
+    let n = t.count;
+    if rates_above(t, n) <= (d as u64) {
+        return Verdict::Faultless;
+    }
+    Verdict::Fault(Cause::Input(InputRefusal::RateSum))
+}
+
 // Checks 1 to 6.
 pub fn check_table(t: Table) -> Verdict
     ensures { λ v. ⌜ verdictOf v ≡ tableVerdict maxPlaces t ⌝ }
@@ -131,18 +157,8 @@ pub fn check_table(t: Table) -> Verdict
     if !in_range(1, Arbiter::MAX_PLACES as u64, n as u64) {
         return Verdict::Fault(Cause::Input(InputRefusal::Count));
     }
-    if !rest_is_clear(t) {
-        return Verdict::Fault(Cause::Input(InputRefusal::Count));
-    }
+    let tail = check_tail(t);
     let rows = check_rows(t);
-    match rows {
-        Verdict::Fault(_) => rows,
-        Verdict::Faultless => {
-            if (d as u64) < rates_above(t, n) {
-                Verdict::Fault(Cause::Input(InputRefusal::RateSum))
-            } else {
-                Verdict::Faultless
-            }
-        }
-    }
+    let sum = check_rate_sum(t);
+    first_fault(tail, first_fault(rows, sum))
 }

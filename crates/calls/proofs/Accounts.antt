@@ -15,11 +15,11 @@ use Rattle.calls.specs.Rule.{eligible, passed}
 
 module _ (r : Requestor) (a : Account) where
   module _ (d : ℕ) where
-    pub eligible-idle : backlog a ≡ 0 → false ≡ eligible d r a
+    pub eligible-idle : backlog a ≤ 0 → false ≡ eligible d r a
     unfolding eligible
     eligible-idle h = rw (le-ltb 0 (backlog a) (omega arith))
 
-    pub eligible-waiting : (backlog a ≡ 0 → ⊥) → leb d (a .credit + r .rate) ≡ eligible d r a
+    pub eligible-waiting : 0 < backlog a → leb d (a .credit + r .rate) ≡ eligible d r a
     unfolding eligible
     eligible-waiting h = rw (lt-ltb 0 (backlog a) (omega arith))
 

@@ -64,6 +64,7 @@ module _ (d : ℕ) where
     where
       here : eligible d r a ≡ true → Place 0 ≡ Place p → eligible d (requestorAt p (r ∷ rs)) (accountAt p (a ∷ accounts)) ≡ true
       here q f = let z : 0 ≡ p = cc in rw (← z) q
+
       further : (p : ℕ) (g : Grant) → ((i : ℕ) → first d rs accounts ≡ Place i → eligible d (requestorAt i rs) (accountAt i accounts) ≡ true)
           → first d rs accounts ≡ g → later g ≡ Place p → eligible d (requestorAt p (r ∷ rs)) (accountAt p (a ∷ accounts)) ≡ true
       further p Nobody rest f e = let z : _≡_ {A = ℕ} 0 1 = cc in absurd (omega arith)

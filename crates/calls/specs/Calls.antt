@@ -32,9 +32,10 @@ grantOf s = first (s .table .denominator) (places (s .table)) (s .accounts)
 -- the state after a slot that granted g: every account, and 5. "the slot number rises by 1"
 unfoldable pub advanced : Arbiter → Grant → Arbiter
 advanced s g = record {
-    table = s .table;
-    slot = record { 0 = s .slot .0 + 1 };
-    accounts = after (s .table .denominator) g (places (s .table)) (s .accounts) }
+  table = s .table;
+  slot = record { 0 = s .slot .0 + 1 };
+  accounts = after (s .table .denominator) g (places (s .table)) (s .accounts);
+}
 
 -- "A post adds a count (0 allowed) to one place's q."
 unfoldable pub more : ℕ → Account → Account
@@ -42,9 +43,10 @@ more count a = record { credit = a .credit; backlog = record { 0 = backlog a + c
 
 unfoldable pub filled : Arbiter → ℕ → ℕ → Arbiter
 filled s p count = record {
-    table = s .table;
-    slot = s .slot;
-    accounts = set (s .accounts) p (more count (accountAt p (s .accounts))) }
+  table = s .table;
+  slot = s .slot;
+  accounts = set (s .accounts) p (more count (accountAt p (s .accounts)));
+}
 
 -- 5. "The stamp is the present slot number."
 abbrev pub slotAnswer : ℕ → Grant → Answer

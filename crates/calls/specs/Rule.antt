@@ -34,8 +34,9 @@ served d r a = record { credit = a .credit + r .rate - d; backlog = record { 0 =
 -- 4. "Any other place with q equal to 0: c becomes the lesser of c + n and b."
 unfoldable pub passed : Requestor → Account → Account
 passed r a = record {
-    credit = pick (ltb 0 (backlog a)) (a .credit + r .rate) (min (a .credit + r .rate) (r .burst));
-    backlog = a .backlog }
+  credit = pick (ltb 0 (backlog a)) (a .credit + r .rate) (min (a .credit + r .rate) (r .burst));
+  backlog = a .backlog;
+}
 
 -- every account after a slot that granted the place named
 unfoldable pub after : ℕ → Grant → List Requestor → List Account → List Account

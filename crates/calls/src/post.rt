@@ -1,10 +1,10 @@
 // A post adds a count to one place's backlog.
-use arbiter::units::Transfers;
 use arbiter::refusals::Cause;
 use arbiter::refusals::InputRefusal;
 use arbiter::refusals::StateRefusal;
 use arbiter::state::Account;
 use arbiter::state::Arbiter;
+use arbiter::units::Transfers;
 ghost use mathlib.Core.Path.{_≡_};
 ghost use Rattle.arbiter.specs.Limits.{maxPlaces};
 ghost use Rattle.arbiter.specs.Refusals.{refusalOf};
@@ -25,7 +25,10 @@ pub struct Posted {
 fn refuse(s: Arbiter, why: Cause) -> Posted
     ensures { λ r. ⌜ postedOf r ≡ record { state = s; answer = refused (refusalOf why) } ⌝ }
 {
-    Posted { state: s, answer: PostAnswer::Refused(why) }
+    Posted {
+        state: s,
+        answer: PostAnswer::Refused(why),
+    }
 }
 
 // Refused: 23, 11, 21.
@@ -47,6 +50,12 @@ pub fn post(s: Arbiter, place: usize, count: Transfers) -> Posted
         return refuse(s, Cause::State(StateRefusal::BacklogLimit));
     }
     let mut next = s;
-    next.accounts[place] = Account { credit: a.credit, backlog: Transfers(q.0 + count.0) };
-    Posted { state: next, answer: PostAnswer::Accepted }
+    next.accounts[place] = Account {
+        credit: a.credit,
+        backlog: Transfers(q.0 + count.0),
+    };
+    Posted {
+        state: next,
+        answer: PostAnswer::Accepted,
+    }
 }

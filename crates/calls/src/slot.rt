@@ -1,11 +1,11 @@
 // A slot grants the first eligible place, or idles, and advances every account.
-use arbiter::units::Slots;
-use arbiter::units::Transfers;
 use arbiter::refusals::Cause;
 use arbiter::refusals::StateRefusal;
-use arbiter::table::Requestor;
 use arbiter::state::Account;
 use arbiter::state::Arbiter;
+use arbiter::table::Requestor;
+use arbiter::units::Slots;
+use arbiter::units::Transfers;
 ghost use mathlib.Core.Path.{_≡_};
 ghost use mathlib.Core.Bool.{true};
 ghost use Prim.Native.Nat.{_+_, _<_, _^_};
@@ -41,10 +41,10 @@ fn is_eligible(d: u32, r: Requestor, a: Account) -> bool
     let credit = a.credit;
     let raised = credit + r.rate;
     let q = a.backlog;
-    if q.0 == 0 {
-        return false;
+    if 0 < q.0 {
+        return d <= raised;
     }
-    d <= raised
+    false
 }
 
 // The first eligible place, or nobody.
@@ -76,7 +76,10 @@ fn serve(d: u32, r: Requestor, a: Account) -> Account
     ensures { λ b. ⌜ b ≡ served d r a ⌝ }
 {
     let q = a.backlog;
-    Account { credit: a.credit + r.rate - d, backlog: Transfers(q.0 - 1) }
+    Account {
+        credit: a.credit + r.rate - d,
+        backlog: Transfers(q.0 - 1),
+    }
 }
 
 // The account of any other place. Only a place with nothing waiting is capped at its burst.
@@ -88,10 +91,16 @@ fn pass(r: Requestor, a: Account) -> Account
     let c = a.credit + r.rate;
     if q.0 == 0 {
         if r.burst < c {
-            return Account { credit: r.burst, backlog: q };
+            return Account {
+                credit: r.burst,
+                backlog: q,
+            };
         }
     }
-    Account { credit: c, backlog: q }
+    Account {
+        credit: c,
+        backlog: q,
+    }
 }
 
 // The account of place p after a slot that granted g.
@@ -101,13 +110,7 @@ fn account_after(d: u32, g: Grant, p: usize, r: Requestor, a: Account) -> Accoun
 {
     match g {
         Grant::Nobody => pass(r, a),
-        Grant::Place(i) => {
-            if i == p {
-                serve(d, r, a)
-            } else {
-                pass(r, a)
-            }
-        }
+        Grant::Place(i) => { if i == p { serve(d, r, a) } else { pass(r, a) } }
     }
 }
 
@@ -128,7 +131,11 @@ fn advance(s: Arbiter, g: Grant) -> Arbiter
         accounts[p] = account_after(d, g, p, r, a);
         p = p + 1;
     }
-    Arbiter { table: t, slot: Slots(at.0 + 1), accounts: accounts }
+    Arbiter {
+        table: t,
+        slot: Slots(at.0 + 1),
+        accounts: accounts,
+    }
 }
 
 // A slot of a state that passed its checks.
@@ -140,8 +147,14 @@ fn carry_out(s: Arbiter) -> Slotted
     let g = find(s);
     let next = advance(s, g);
     match g {
-        Grant::Nobody => Slotted { state: next, answer: SlotAnswer::Idle(at) },
-        Grant::Place(p) => Slotted { state: next, answer: SlotAnswer::Granted(at, p) },
+        Grant::Nobody => Slotted {
+            state: next,
+            answer: SlotAnswer::Idle(at),
+        },
+        Grant::Place(p) => Slotted {
+            state: next,
+            answer: SlotAnswer::Granted(at, p),
+        },
     }
 }
 
@@ -149,7 +162,10 @@ fn carry_out(s: Arbiter) -> Slotted
 fn refuse(s: Arbiter, why: StateRefusal) -> Slotted
     ensures { λ r. ⌜ slottedOf r ≡ record { state = s; answer = refused (refusalOf (Cause.State why)) } ⌝ }
 {
-    Slotted { state: s, answer: SlotAnswer::Refused(Cause::State(why)) }
+    Slotted {
+        state: s,
+        answer: SlotAnswer::Refused(Cause::State(why)),
+    }
 }
 
 // Refused: 23, 22.

@@ -52,13 +52,17 @@ benchRows =
     ∷ record { asked = figures tableTShort 1 1; written = figured 8 3 3 7 }
     ∷ record { asked = admission tableT; written = found faultless }
     -- 3: nine slots log 0 0 1 0 1 255 255 1 255
-    ∷ record { asked = run tableT 0 (threeEach ++ replicate 9 slot);
-        written = heard
-        (accepted ∷ accepted ∷ granted 0 0 ∷ granted 1 0 ∷ granted 2 1 ∷ granted 3 0 ∷ granted 4 1 ∷ idle 5 ∷ idle 6 ∷ granted 7 1 ∷ idle 8 ∷ [])
-        (5 ∷ 1 ∷ []) }
+    ∷ record {
+      asked = run tableT 0 (threeEach ++ replicate 9 slot);
+      written = heard
+          (accepted ∷ accepted ∷ granted 0 0 ∷ granted 1 0 ∷ granted 2 1 ∷ granted 3 0 ∷ granted 4 1 ∷ idle 5 ∷ idle 6 ∷ granted 7 1 ∷ idle 8 ∷ [])
+          (5 ∷ 1 ∷ []);
+    }
     -- 4: after slot 2 of case 3 the credits are 3 and 3
-    ∷ record { asked = run tableT 0 (threeEach ++ replicate 3 slot);
-        written = heard (accepted ∷ accepted ∷ granted 0 0 ∷ granted 1 0 ∷ granted 2 1 ∷ []) (3 ∷ 3 ∷ []) }
+    ∷ record {
+      asked = run tableT 0 (threeEach ++ replicate 3 slot);
+      written = heard (accepted ∷ accepted ∷ granted 0 0 ∷ granted 1 0 ∷ granted 2 1 ∷ []) (3 ∷ 3 ∷ []);
+    }
     -- 7: D=4 with rates 3 and 2 is refused 6; 3 and 1 are not
     ∷ record { asked = admission (tableRates 3 2); written = found (fault (refusal 6)) }
     ∷ record { asked = admission (tableRates 3 1); written = found faultless }
@@ -66,21 +70,27 @@ benchRows =
     ∷ record { asked = admission (tableBurst 3); written = found (fault (refusalAt 4 0)) }
     ∷ record { asked = admission (tableBurst 4); written = found faultless }
     -- 9: backlog 65,535 takes a post of 0 and refuses a post of 1 with 21
-    ∷ record { asked = run tableT 0 (post 0 65535 ∷ post 0 0 ∷ post 0 1 ∷ []);
-        written = heard (accepted ∷ accepted ∷ refused (refusal 21) ∷ []) (8 ∷ 4 ∷ []) }
+    ∷ record {
+      asked = run tableT 0 (post 0 65535 ∷ post 0 0 ∷ post 0 1 ∷ []);
+      written = heard (accepted ∷ accepted ∷ refused (refusal 21) ∷ []) (8 ∷ 4 ∷ []);
+    }
     -- 10: a slot numbered two to the power 62 less 1 is done; the next is refused 22
-    ∷ record { asked = run tableT 4611686018427387903 (slot ∷ slot ∷ []);
-        written = heard (idle 4611686018427387903 ∷ refused (refusal 22) ∷ []) (8 ∷ 4 ∷ []) }
+    ∷ record {
+      asked = run tableT 4611686018427387903 (slot ∷ slot ∷ []);
+      written = heard (idle 4611686018427387903 ∷ refused (refusal 22) ∷ []) (8 ∷ 4 ∷ []);
+    }
     -- 11: place 1's finish for one transfer is 2 + 3 = 5
     ∷ record { asked = figures tableFive 1 1; written = figured 6 4 2 5 }
     -- 12: in slots 0 to 23 place 1 is granted 0, 3 and 7 only. The floor gives 36 against 32
-    ∷ record { asked = run tableLate 0 (post 1 24 ∷ lateCalls);
-        written = heard
-        (accepted
-        ∷ granted 0 1 ∷ idle 1 ∷ idle 2 ∷ granted 3 1 ∷ idle 4 ∷ idle 5 ∷ idle 6 ∷ granted 7 1 ∷ idle 8 ∷ idle 9 ∷ idle 10 ∷ accepted
-        ∷ granted 11 0 ∷ granted 12 0 ∷ granted 13 0 ∷ granted 14 0 ∷ granted 15 0 ∷ granted 16 0 ∷ granted 17 0 ∷ granted 18 0
-        ∷ granted 19 0 ∷ granted 20 0 ∷ granted 21 0 ∷ granted 22 0 ∷ granted 23 0 ∷ [])
-        (1 ∷ 16 ∷ []) }
+    ∷ record {
+      asked = run tableLate 0 (post 1 24 ∷ lateCalls);
+      written = heard
+          (accepted
+          ∷ granted 0 1 ∷ idle 1 ∷ idle 2 ∷ granted 3 1 ∷ idle 4 ∷ idle 5 ∷ idle 6 ∷ granted 7 1 ∷ idle 8 ∷ idle 9 ∷ idle 10 ∷ accepted
+          ∷ granted 11 0 ∷ granted 12 0 ∷ granted 13 0 ∷ granted 14 0 ∷ granted 15 0 ∷ granted 16 0 ∷ granted 17 0 ∷ granted 18 0
+          ∷ granted 19 0 ∷ granted 20 0 ∷ granted 21 0 ∷ granted 22 0 ∷ granted 23 0 ∷ [])
+          (1 ∷ 16 ∷ []);
+    }
     ∷ record { asked = figures tableLate 1 1; written = figured 40 3 14 18 }
     ∷ record { asked = floor tableLate (post 1 24 ∷ []) lateCalls 1; written = sides 36 32 }
     -- 13: D=65,535 passes; 0 and 65,536 are refused 1

@@ -38,24 +38,34 @@ edgeRows =
     -- one past it is refused 12 and hands back a state whose every field is 0: each call on it is refused 23
     ∷ record { asked = run tableT 4611686018427387905 (slot ∷ post 0 1 ∷ []); written = heard (refused (refusal 23) ∷ refused (refusal 23) ∷ []) (0 ∷ 0 ∷ []) }
     -- N=1 and D=1
-    ∷ record { asked = run (tableOf 1 1 (row 1 1 1 1 ∷ [])) 0 (post 0 2 ∷ slot ∷ slot ∷ slot ∷ []);
-        written = heard (accepted ∷ granted 0 0 ∷ granted 1 0 ∷ idle 2 ∷ []) (1 ∷ []) }
+    ∷ record {
+      asked = run (tableOf 1 1 (row 1 1 1 1 ∷ [])) 0 (post 0 2 ∷ slot ∷ slot ∷ slot ∷ []);
+      written = heard (accepted ∷ granted 0 0 ∷ granted 1 0 ∷ idle 2 ∷ []) (1 ∷ []);
+    }
     -- N=0 and one more than the largest N
     ∷ record { asked = admission (tableOf 4 0 []); written = found (fault (refusal 2)) }
     ∷ record { asked = admission (tableOf 4 17 (replicate 16 (row 1 4 1 1000))); written = found (fault (refusal 2)) }
     -- rates that sum to exactly D, with the largest bursts at the largest N
     ∷ record { asked = admission tableLargest; written = found faultless }
     -- place 1 is blocked while place 0 spends its burst: its credit passes its burst of 4
-    ∷ record { asked = run tableT 0 (post 0 3 ∷ post 1 1 ∷ slot ∷ slot ∷ []);
-        written = heard (accepted ∷ accepted ∷ granted 0 0 ∷ granted 1 0 ∷ []) (2 ∷ 6 ∷ []) }
+    ∷ record {
+      asked = run tableT 0 (post 0 3 ∷ post 1 1 ∷ slot ∷ slot ∷ []);
+      written = heard (accepted ∷ accepted ∷ granted 0 0 ∷ granted 1 0 ∷ []) (2 ∷ 6 ∷ []);
+    }
     -- then place 0 has no credit: place 1 is granted its last transfer, and is capped only in the slot after
-    ∷ record { asked = run (tableOf 4 2 (row 1 16 1 4 ∷ row 3 4 1 8 ∷ [])) 0 (post 0 3 ∷ post 1 1 ∷ slot ∷ slot ∷ slot ∷ slot ∷ []);
-        written = heard (accepted ∷ accepted ∷ granted 0 0 ∷ granted 1 0 ∷ granted 2 0 ∷ granted 3 1 ∷ []) (8 ∷ 12 ∷ []) }
-    ∷ record { asked = run (tableOf 4 2 (row 1 16 1 4 ∷ row 3 4 1 8 ∷ [])) 0 (post 0 3 ∷ post 1 1 ∷ slot ∷ slot ∷ slot ∷ slot ∷ slot ∷ []);
-        written = heard (accepted ∷ accepted ∷ granted 0 0 ∷ granted 1 0 ∷ granted 2 0 ∷ granted 3 1 ∷ idle 4 ∷ []) (9 ∷ 4 ∷ []) }
+    ∷ record {
+      asked = run (tableOf 4 2 (row 1 16 1 4 ∷ row 3 4 1 8 ∷ [])) 0 (post 0 3 ∷ post 1 1 ∷ slot ∷ slot ∷ slot ∷ slot ∷ []);
+      written = heard (accepted ∷ accepted ∷ granted 0 0 ∷ granted 1 0 ∷ granted 2 0 ∷ granted 3 1 ∷ []) (8 ∷ 12 ∷ []);
+    }
+    ∷ record {
+      asked = run (tableOf 4 2 (row 1 16 1 4 ∷ row 3 4 1 8 ∷ [])) 0 (post 0 3 ∷ post 1 1 ∷ slot ∷ slot ∷ slot ∷ slot ∷ slot ∷ []);
+      written = heard (accepted ∷ accepted ∷ granted 0 0 ∷ granted 1 0 ∷ granted 2 0 ∷ granted 3 1 ∷ idle 4 ∷ []) (9 ∷ 4 ∷ []);
+    }
     -- counts far beyond 65,535; a place that is not below N
-    ∷ record { asked = run tableT 0 (post 0 65536 ∷ post 1 4294967295 ∷ post 2 1 ∷ post 15 0 ∷ []);
-        written = heard (refused (refusal 21) ∷ refused (refusal 21) ∷ refused (refusal 11) ∷ refused (refusal 11) ∷ []) (8 ∷ 4 ∷ []) }
+    ∷ record {
+      asked = run tableT 0 (post 0 65536 ∷ post 1 4294967295 ∷ post 2 1 ∷ post 15 0 ∷ []);
+      written = heard (refused (refusal 21) ∷ refused (refusal 21) ∷ refused (refusal 11) ∷ refused (refusal 11) ∷ []) (8 ∷ 4 ∷ []);
+    }
     -- N = 2 with one field past place 1 that is not 0: 2, ahead of the 3 at place 0
     ∷ record { asked = admission (tablePastTwo (row 1 0 0 0)); written = found (fault (refusal 2)) }
     ∷ record { asked = admission (tablePastTwo (row 0 1 0 0)); written = found (fault (refusal 2)) }

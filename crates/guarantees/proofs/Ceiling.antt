@@ -29,12 +29,15 @@ module _ (T : Table) (k C : ℕ) where
   paid-next : (t g : ℕ) (s : Arbiter) (c : Call) → Unit {0} → Paid t g s
       → Paid (slotIn (ruled s c .answer) + t) (grantToFirst k (ruled s c .answer) + g) (ruled s c .state)
   unfolding advanced grantOf slotted
-  paid-next t g s c w (on, h) = (table-stands s c ∙ on, by-kind
-      (λ c u a. total credit (take k (u .accounts)) + T .denominator * (grantToFirst k a + g) ≤ C + (slotIn a + t) * total rate (take k (places T))) s c
-      (λ r e. omega arith)
-      (λ p count e. omega (arith, filled-credits s k p count))
-      (λ e. rw (slot-in (s .slot .0) (grantOf s), grant-to-first k (s .slot .0) (grantOf s), on)
-          (omega (arith, slotted-rise (T .denominator) k (places T) (s .accounts)))))
+  paid-next t g s c w (on, h) = (
+    table-stands s c ∙ on,
+    by-kind
+        (λ c u a. total credit (take k (u .accounts)) + T .denominator * (grantToFirst k a + g) ≤ C + (slotIn a + t) * total rate (take k (places T))) s c
+        (λ r e. omega arith)
+        (λ p count e. omega (arith, filled-credits s k p count))
+        (λ e. rw (slot-in (s .slot .0) (grantOf s), grant-to-first k (s .slot .0) (grantOf s), on)
+        (omega (arith, slotted-rise (T .denominator) k (places T) (s .accounts)))),
+  )
 
 -- T is the table that stands where the stretch begins
 pub ceiling-from : (limit : ℕ) (T : Table) (s : Arbiter) → s .table ≡ T → Sound limit s → (inside : List Call) (k : ℕ) → k ≤ T .count

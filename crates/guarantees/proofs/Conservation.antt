@@ -30,7 +30,7 @@ brought-refused p slot r = refl
 -- one call
 pub conserved-next : (limit p : ℕ) (s : Arbiter) (c : Call) → Sound limit s
     → brought p c (ruled s c .answer) + backlog (accountAt p (s .accounts))
-      ≡ grantTo p (ruled s c .answer) + backlog (accountAt p (ruled s c .state .accounts))
+    ≡ grantTo p (ruled s c .answer) + backlog (accountAt p (ruled s c .state .accounts))
 unfolding brought advanced grantOf slotted
 conserved-next limit p s c v = by-kind (λ c u a. brought p c a + backlog (accountAt p (s .accounts)) ≡ grantTo p a + backlog (accountAt p (u .accounts))) s c
     (λ r e. omega (arith, brought-refused p c r))
@@ -40,7 +40,7 @@ conserved-next limit p s c v = by-kind (λ c u a. brought p c a + backlog (accou
 -- any calls, from any sound state
 pub conserved : (limit p : ℕ) (s : Arbiter) (calls : List Call) → Sound limit s
     → broughtTo p calls (answers ruled s calls) + backlog (accountAt p (s .accounts))
-      ≡ grantsTo p (answers ruled s calls) + backlog (accountAt p (end ruled s calls .accounts))
+    ≡ grantsTo p (answers ruled s calls) + backlog (accountAt p (end ruled s calls .accounts))
 unfolding end answers broughtTo total
 conserved limit p s [] v = refl
 conserved limit p s (c ∷ calls) v = omega (arith, conserved-next limit p s c v, conserved limit p (ruled s c .state) calls (sound-next limit s c v))

@@ -19,9 +19,10 @@ use Rattle.guarantees.proofs.Start.{entered-sound, entered-ruled}
 -- of any sound state
 pub sustained : (limit : ℕ) (s : Arbiter) → Sound limit s → Sustained limit s
 sustained limit s v = record {
-    sums = λ k. omega (arith, v .sums (suc k));
-    passes-23 = sound-shut limit s v;
-    never-23 = λ c e. ruled-never-23 s c (ap (λ r. r .answer) (sym (call-ruled limit s c v)) ∙ e) }
+  sums = λ k. omega (arith, v .sums (suc k));
+  passes-23 = sound-shut limit s v;
+  never-23 = λ c e. ruled-never-23 s c (ap (λ r. r .answer) (sym (call-ruled limit s c v)) ∙ e);
+}
 
 pub credit-sums : Credit-sums
 credit-sums limit t first a calls = rw (entered-ruled limit t first a calls) (sustained limit _ (entered-sound limit t first a calls))

@@ -48,12 +48,15 @@ slotted-within d (suc k) [] accounts h roomy z = absurd (omega arith)
 slotted-within d (suc k) (r ∷ rs) [] h roomy z = rw (slotted-no-account d r rs) (omega arith)
 slotted-within d (suc k) (r ∷ rs) (a ∷ accounts) h roomy z = by-head d r rs a accounts
     (λ y. let one = y .to-first-is k in absurd (omega arith))
-    (λ n. rw (n .slotted-is) (omega (arith,
-        passed-within r a d (roomy 0 (omega arith)) (n .short),
-        slotted-within d k rs accounts (omega arith) (λ p l. roomy (suc p) (omega arith)) (rw (n .to-first-is k) at z))))
+    (λ n. rw (n .slotted-is) (omega (
+      arith,
+      passed-within r a d (roomy 0 (omega arith)) (n .short),
+      slotted-within d k rs accounts (omega arith) (λ p l. roomy (suc p) (omega arith)) (rw (n .to-first-is k) at z),
+    )))
 
 pub slotted-kept : (d k : ℕ) (rs : List Requestor) (accounts : List Account) → k ≤ length rs → Roomy d rs accounts → total rate (take k rs) ≤ d
     → total credit (take k accounts) ≤ total burst (take k rs) → total credit (take k (slotted d rs accounts)) ≤ total burst (take k rs)
-slotted-kept d k rs accounts h roomy rated held = elim (ℕ-discrete (toFirst k (first d rs accounts)) 0)
-    [ yes z ↦ slotted-within d k rs accounts h roomy z
-    | no z ↦ omega (arith, rw (to-first-one k (first d rs accounts) z) at (slotted-rise d k rs accounts)) ]
+slotted-kept d k rs accounts h roomy rated held = elim (ℕ-discrete (toFirst k (first d rs accounts)) 0) [
+  | yes z ↦ slotted-within d k rs accounts h roomy z
+  | no z ↦ omega (arith, rw (to-first-one k (first d rs accounts) z) at (slotted-rise d k rs accounts))
+]

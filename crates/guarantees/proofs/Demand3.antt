@@ -31,8 +31,11 @@ pub floor-from : (limit : ℕ) (T : Table) (s : Arbiter) → s .table ≡ T → 
     → T .denominator ≤ credit (accountAt p (s .accounts))
     → Floor (T .denominator) (places T) p (slotsIn (answers ruled s inside)) (grantsTo p (answers ruled s inside))
 floor-from limit T s on v inside p place waits enters =
-    omega (arith, floor-of-sharper _ _ _ _ (credit (accountAt p (s .accounts))) _ _ (own-rate-left limit T s on v p place .0) enters
-        (sharper-from limit T s on v p place inside waits))
+    omega (
+      arith,
+      floor-of-sharper _ _ _ _ (credit (accountAt p (s .accounts))) _ _ (own-rate-left limit T s on v p place .0) enters
+          (sharper-from limit T s on v p place inside waits),
+    )
 
 -- from an accepted start
 module _ (limit : ℕ) (t : Table) (first : ℕ) (a : Accepted limit t first) (before inside : List Call) where
@@ -53,4 +56,5 @@ demand-3 limit t first a before inside =
       heard-by-rule = heard-ruled limit t first a before inside;
       left-by-rule = left-ruled limit t first a before inside;
       ceiling = λ k least most. rw (heard-ruled limit t first a before inside) (ceiling-from limit t s on v inside k (omega arith));
-      floor = λ p place waits enters. rw (heard-ruled limit t first a before inside) (floor-from limit t s on v inside p (omega arith) waits (omega arith)) }
+      floor = λ p place waits enters. rw (heard-ruled limit t first a before inside) (floor-from limit t s on v inside p (omega arith) waits (omega arith));
+    }

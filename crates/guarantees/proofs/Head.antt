@@ -54,16 +54,23 @@ module _ (d : ℕ) (r : Requestor) (rs : List Requestor) (a : Account) (accounts
   pub head-granted : eligible d r a ≡ true → Granted
   unfolding slotted first after toFirst toPlace
   head-granted e = record {
-      waiting = eligible-waits d r a e; enough = eligible-enough d r a e; slotted-is = rw e;
-      to-first-is = λ k. rw (e, lt-ltb 0 (suc k) (omega arith)); to-head-is = rw e; to-tail-is = λ p. rw (e, ne-eqb 0 (suc p) (omega arith)) }
+    waiting = eligible-waits d r a e;
+    enough = eligible-enough d r a e;
+    slotted-is = rw e;
+    to-first-is = λ k. rw (e, lt-ltb 0 (suc k) (omega arith));
+    to-head-is = rw e;
+    to-tail-is = λ p. rw (e, ne-eqb 0 (suc p) (omega arith));
+  }
 
   pub head-passed : eligible d r a ≡ false → Passed
   unfolding slotted first
   head-passed e = record {
-      short = not-eligible-short d r a e; slotted-is = rw e (after-later (first d rs accounts));
-      to-first-is = λ k. rw e (to-first-later k (first d rs accounts));
-      to-head-is = rw e (to-place-later-zero (first d rs accounts));
-      to-tail-is = λ p. rw e (to-place-later p (first d rs accounts)) }
+    short = not-eligible-short d r a e;
+    slotted-is = rw e (after-later (first d rs accounts));
+    to-first-is = λ k. rw e (to-first-later k (first d rs accounts));
+    to-head-is = rw e (to-place-later-zero (first d rs accounts));
+    to-tail-is = λ p. rw e (to-place-later p (first d rs accounts));
+  }
 
   pub by-head {ℓ} : {X : Type ℓ} → (Granted → X) → (Passed → X) → X
   by-head f g = cases (eligible d r a) (λ e. f (head-granted e)) (λ e. g (head-passed e))

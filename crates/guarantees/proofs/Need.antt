@@ -57,7 +57,7 @@ waits-or-granted limit p j s [] v h = inr tt
 waits-or-granted limit p zero s (c ∷ calls) v h = inl (omega arith)
 waits-or-granted limit p (suc j) s (c ∷ calls) v h =
     both (waits-or-granted limit p (suc j - grantTo p (ruled s c .answer)) (ruled s c .state) calls (sound-next limit s c v)
-        (omega (arith, conserved-next limit p s c v)))
+    (omega (arith, conserved-next limit p s c v)))
   where
     both : (suc j - grantTo p (ruled s c .answer) ≤ grantsTo p (answers ruled (ruled s c .state) calls)) ⊎ Waits p (ruled s c .state) calls
         → (suc j ≤ grantTo p (ruled s c .answer) + grantsTo p (answers ruled (ruled s c .state) calls)) ⊎ Waits p s (c ∷ calls)
@@ -70,11 +70,18 @@ rounded-up-covers a b h = omega (arith, div-add-mod (a + (b - 1)) b, mod-lt (a +
 
 -- in as many slots as the finish figure says, the floor comes to j grants
 floor-enough : (d n R B L g j : ℕ) → 1 ≤ d → 1 ≤ n → 1 ≤ R → n * R * L ≤ R * d * g + n * B → finishOf d B R n j ≤ L → j ≤ g
-floor-enough d n R B L g j hd hn hR floor figure = elim (decLe j g)
-    [ yes all ↦ all
-    | no fewer ↦ let lacks : g + 1 ≤ j = omega arith in
-        omega (arith, mul-le-mul-left n (mul-le-mul-left R figure), mul-le-mul-left n (rounded-up-covers B R hR),
-            mul-le-mul-left R (rounded-up-covers (j * d) n hn), mul-le-mul-left R (mul-le-mul-left d lacks), one-le-mul hR hd) ]
+floor-enough d n R B L g j hd hn hR floor figure = elim (decLe j g) [
+  | yes all ↦ all
+  | no fewer ↦ let lacks : g + 1 ≤ j = omega arith in
+      omega (
+        arith,
+        mul-le-mul-left n (mul-le-mul-left R figure),
+        mul-le-mul-left n (rounded-up-covers B R hR),
+        mul-le-mul-left R (rounded-up-covers (j * d) n hn),
+        mul-le-mul-left R (mul-le-mul-left d lacks),
+        one-le-mul hR hd,
+      )
+]
 
 -- T is the table that stands where the stretch begins; any number of slots from the finish figure on will do
 pub need-from : (limit : ℕ) (T : Table) (s : Arbiter) → s .table ≡ T → Sound limit s → (inside : List Call) (p j slots : ℕ)
@@ -85,11 +92,14 @@ need-from limit T s on v inside p j slots pending figure reached =
   where
     calls : List Call
     calls = firstCalls s inside slots
+
     place : p < T .count
     place = omega (arith, ap (λ t. t .count) on)
+
     counted : slotsIn (answers ruled s calls) ≡ slots
     counted = rw (first-calls-answer s inside slots)
         (first-slots-count (answers ruled s inside) slots (omega (arith, rw (answers-ruled limit s inside v) at reached)))
+
     go : (j ≤ grantsTo p (answers ruled s calls)) ⊎ Waits p s calls → j ≤ grantsTo p (answers ruled s calls)
     go (inl all) = all
     go (inr waits) = floor-enough (T .denominator) (requestorAt p (places T) .rate) (rateLeft (T .denominator) p (places T)) (burstsAbove p (places T)) _ _ j

@@ -56,8 +56,9 @@ module _ (d n R B c₀ : ℕ) where
 
   held-short : (t g C C′ c c′ : ℕ) → C′ ≤ B → c + n < d → c′ ≡ c + n → Held t g C c → Held (1 + t) g C′ c′
   held-short t g C C′ c c′ within lacks e v = record {
-      exact = omega (arith, v .exact);
-      course = since (1 + t) g 0 0 (omega arith) (omega arith) (omega (arith, v .exact)) (omega arith) }
+    exact = omega (arith, v .exact);
+    course = since (1 + t) g 0 0 (omega arith) (omega arith) (omega (arith, v .exact)) (omega arith);
+  }
 
   held-sharp : (t g C c : ℕ) → n ≤ R → Held t g C c → Sharp d n R B c₀ t g
   held-sharp t g C c rated v = go (v .course)
@@ -93,14 +94,17 @@ module _ (T : Table) (p c₀ t g : ℕ) (place : p < T .count) where
 kept-next : (limit : ℕ) (T : Table) (p c₀ : ℕ) → p < T .count → (t g : ℕ) (s : Arbiter) (c : Call) → WaitsAt p s (ruled s c .answer)
     → Kept limit T p c₀ t g s → Kept limit T p c₀ (slotIn (ruled s c .answer) + t) (grantTo p (ruled s c .answer) + g) (ruled s c .state)
 unfolding advanced grantOf slotted
-kept-next limit T p c₀ place t g s c waits (on, v, held) = (table-stands s c ∙ on, sound-next limit s c v,
-    by-kind (λ c u a. WaitsAt p s a → At T p c₀ (slotIn a + t) (grantTo p a + g) (u .accounts)) s c
-    (λ r e w. rw (zero-add t, zero-add g) held)
-    (λ q count e w. rw (zero-add t, zero-add g, filled-credits s p q count, filled-credit s p q count) held)
-    (λ e w. rw (slot-in (s .slot .0) (grantOf s), grant-to p (s .slot .0) (grantOf s), on)
-        (at-slot T p c₀ t g place (s .accounts) (rw on at (places-count limit s v)) (rw on at (rates-most limit (s .table) (sound-fair limit s v) p))
-            (rw on at (sound-roomy limit s v)) (slot-meets _ (s .slot .0) (grantOf s) w) held))
-    waits)
+kept-next limit T p c₀ place t g s c waits (on, v, held) = (
+  table-stands s c ∙ on,
+  sound-next limit s c v,
+  by-kind (λ c u a. WaitsAt p s a → At T p c₀ (slotIn a + t) (grantTo p a + g) (u .accounts)) s c
+      (λ r e w. rw (zero-add t, zero-add g) held)
+      (λ q count e w. rw (zero-add t, zero-add g, filled-credits s p q count, filled-credit s p q count) held)
+      (λ e w. rw (slot-in (s .slot .0) (grantOf s), grant-to p (s .slot .0) (grantOf s), on)
+      (at-slot T p c₀ t g place (s .accounts) (rw on at (places-count limit s v)) (rw on at (rates-most limit (s .table) (sound-fair limit s v) p))
+      (rw on at (sound-roomy limit s v)) (slot-meets _ (s .slot .0) (grantOf s) w) held))
+      waits,
+)
 
 -- T is the table that stands where the stretch begins
 module _ (limit : ℕ) (T : Table) (s : Arbiter) (on : s .table ≡ T) (v : Sound limit s) (p : ℕ) (place : p < T .count) where
@@ -114,8 +118,8 @@ module _ (limit : ℕ) (T : Table) (s : Arbiter) (on : s .table ≡ T) (v : Soun
       let enters : total credit (take p (s .accounts)) ≤ burstsAbove p (places T) = rw on at (sound-credits limit s v p) (omega arith) in
       rw (add-zero (slotsIn (answers ruled s inside)), add-zero (grantsTo p (answers ruled s inside))) at
       (held-sharp _ _ _ _ c₀ _ _ _ _ (own-rate-left .0)
-          (along ruled (WaitsAt p) slotIn (grantTo p) (Kept limit T p c₀) (kept-next limit T p c₀ place) 0 0 s inside waits
-              (on, v, record { exact = omega arith; course = never (omega arith) }) .2))
+      (along ruled (WaitsAt p) slotIn (grantTo p) (Kept limit T p c₀) (kept-next limit T p c₀ place) 0 0 s inside waits
+      (on, v, record { exact = omega arith; course = never (omega arith) }) .2))
 
 pub sharper-floor : Sharper-floor
 sharper-floor limit s shape e inside p place waits =

@@ -54,12 +54,16 @@ module _ (limit : ℕ) (s : Arbiter) where
         let inside : p < s .table .count = post-place s p count e in
         let held : p < length (s .accounts) = omega (arith, accounts-cover) in
         record {
-          rows = v .rows; accounts = length-set (s .accounts) p _ ∙ v .accounts; passes = v .passes; slot-most = v .slot-most;
+          rows = v .rows;
+          accounts = length-set (s .accounts) p _ ∙ v .accounts;
+          passes = v .passes;
+          slot-most = v .slot-most;
           backlog-most = λ q h. rw (filled-backlog s q p count held) (cases (eqb p q)
               (λ same. rw same (omega (arith, rw (eqb-true p q same) at (post-fits s p count e))))
               (λ apart. rw apart (omega (arith, v .backlog-most q h))));
           sums = λ k. omega (arith, filled-credits s k p count, v .sums k);
-          clear = rw (drop-set-lt (s .table .count) (s .accounts) p _ inside) (v .clear) }
+          clear = rw (drop-set-lt (s .table .count) (s .accounts) p _ inside) (v .clear);
+        }
 
     advanced-clear : every accountClear (drop (s .table .count) (advanced s (grantOf s) .accounts)) ≡ true
     unfolding advanced
@@ -67,18 +71,24 @@ module _ (limit : ℕ) (s : Arbiter) where
 
     advanced-sums : (k : ℕ) → k ≤ s .table .count → total credit (take k (advanced s (grantOf s) .accounts)) ≤ total burst (take k (s .table .requestors))
     unfolding advanced grantOf slotted
-    advanced-sums k h = omega (arith, ap (total burst) (take-take k (s .table .count) (s .table .requestors) h),
-        slotted-kept (s .table .denominator) k (places (s .table)) (s .accounts) (omega (arith, places-count)) sound-roomy
-            (rates-most limit (s .table) fair-table k) (sound-credits k h))
+    advanced-sums k h = omega (
+      arith,
+      ap (total burst) (take-take k (s .table .count) (s .table .requestors) h),
+      slotted-kept (s .table .denominator) k (places (s .table)) (s .accounts) (omega (arith, places-count)) sound-roomy
+          (rates-most limit (s .table) fair-table k) (sound-credits k h),
+    )
 
     advanced-sound : ruleVerdict s slot ≡ faultless → Sound limit (advanced s (grantOf s))
     unfolding advanced grantOf slotted
     advanced-sound e = record {
-        rows = v .rows; accounts = after-length _ (grantOf s) (places (s .table)) (s .accounts) ∙ v .accounts; passes = v .passes;
-        slot-most = omega (arith, slot-below s e);
-        backlog-most = λ q h. omega (arith, slotted-backlog (s .table .denominator) q (places (s .table)) (s .accounts), v .backlog-most q h);
-        sums = sums-past (s .table .count) (s .table .requestors) (advanced s (grantOf s) .accounts) advanced-clear advanced-sums;
-        clear = advanced-clear }
+      rows = v .rows;
+      accounts = after-length _ (grantOf s) (places (s .table)) (s .accounts) ∙ v .accounts;
+      passes = v .passes;
+      slot-most = omega (arith, slot-below s e);
+      backlog-most = λ q h. omega (arith, slotted-backlog (s .table .denominator) q (places (s .table)) (s .accounts), v .backlog-most q h);
+      sums = sums-past (s .table .count) (s .table .requestors) (advanced s (grantOf s) .accounts) advanced-clear advanced-sums;
+      clear = advanced-clear;
+    }
 
 module _ (limit : ℕ) where
   -- every call keeps a state sound

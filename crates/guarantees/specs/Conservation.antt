@@ -27,5 +27,5 @@ broughtTo p (c ∷ cs) (a ∷ heard) = brought p c a + broughtTo p cs heard
 abbrev pub Conservation : Type 0
 Conservation = (limit : ℕ) (t : Table) (first : ℕ) → Accepted limit t first → (calls : List Call) (p : ℕ)
     → broughtTo p calls (Runs.answers (called limit) (opened limit t first) calls)
-      ≡ grantsTo p (Runs.answers (called limit) (opened limit t first) calls)
-        + backlog (accountAt p (Runs.end (called limit) (opened limit t first) calls .accounts))
+    ≡ grantsTo p (Runs.answers (called limit) (opened limit t first) calls)
+    + backlog (accountAt p (Runs.end (called limit) (opened limit t first) calls .accounts))

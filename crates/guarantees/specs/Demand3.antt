@@ -27,8 +27,10 @@ Floor d rs p L g = n * R * L ≤ R * d * g + n * B
   where
     n : ℕ
     n = requestorAt p rs .rate
+
     R : ℕ
     R = rateLeft d p rs
+
     B : ℕ
     B = burstsAbove p rs
 

@@ -28,4 +28,4 @@ abbrev pub Sharper-floor : Type 0
 Sharper-floor = (limit : ℕ) (s : Arbiter) → Shaped limit s → sound limit s ≡ true → (inside : List Call) (p : ℕ)
     → p < s .table .count → Waits p s inside
     → Sharper (s .table .denominator) (places (s .table)) p (credit (accountAt p (s .accounts)))
-        (slotsIn (heardFrom limit s inside)) (grantsTo p (heardFrom limit s inside))
+    (slotsIn (heardFrom limit s inside)) (grantsTo p (heardFrom limit s inside))

@@ -26,11 +26,11 @@ countedFrom first (suc n) = first ∷ countedFrom (first + 1) n
 abbrev pub Stamps : Type 0
 Stamps = (limit : ℕ) (t : Table) (first : ℕ) → Accepted limit t first → (calls : List Call)
     → stampsIn (Runs.answers (called limit) (opened limit t first) calls)
-      ≡ countedFrom first (slotsIn (Runs.answers (called limit) (opened limit t first) calls))
+    ≡ countedFrom first (slotsIn (Runs.answers (called limit) (opened limit t first) calls))
 
 -- so no two accepted slots share a stamp
 abbrev pub Distinct-stamps : Type 0
 Distinct-stamps = (limit : ℕ) (t : Table) (first : ℕ) → Accepted limit t first → (calls : List Call) (i j : ℕ)
     → i < j → j < length (stampsIn (Runs.answers (called limit) (opened limit t first) calls))
     → getD (stampsIn (Runs.answers (called limit) (opened limit t first) calls)) i 0
-      ≡ getD (stampsIn (Runs.answers (called limit) (opened limit t first) calls)) j 0 → ⊥
+    ≡ getD (stampsIn (Runs.answers (called limit) (opened limit t first) calls)) j 0 → ⊥

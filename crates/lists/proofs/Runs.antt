@@ -51,8 +51,10 @@ module _ {S C A : Type 0} (step : S → C → Result S A) where
   unfolding end answers total
   along Q f g P kept t u s [] q p = rw (zero-add t, zero-add u) p
   along Q f g P kept t u s (c ∷ calls) q p =
-      rw (shift (f (step s c .answer)) (total f (answers step (step s c .state) calls)) t,
-          shift (g (step s c .answer)) (total g (answers step (step s c .state) calls)) u)
+      rw (
+        shift (f (step s c .answer)) (total f (answers step (step s c .state) calls)) t,
+        shift (g (step s c .answer)) (total g (answers step (step s c .state) calls)) u,
+      )
       (along Q f g P kept (f (step s c .answer) + t) (g (step s c .answer) + u) (step s c .state) calls (q .1) (kept t u s c (q .0) p))
 
 -- two steps that agree where P holds, which the second keeps

@@ -86,8 +86,9 @@ refused-place-fits limit s next c r e = rw (called-unplaced limit s c r (ap (λ 
 pub makes : (next : Arbiter) (w : Words) (a : Answer) (r : Result Arbiter Answer) → _≡_ {A = Result Arbiter Answer} (record { state = next; answer = a }) r
     → listed w ≡ answerWords a → Makes (record { state = next; words = w }) r
 makes next w a r e f = record {
-    state = ap (λ (x : Result Arbiter Answer). x .state) e;
-    words = f ∙ ap (λ (x : Result Arbiter Answer). answerWords (x .answer)) e }
+  state = ap (λ (x : Result Arbiter Answer). x .state) e;
+  words = f ∙ ap (λ (x : Result Arbiter Answer). answerWords (x .answer)) e;
+}
 
 -- a number other than 0 is a post
 pub call-post : (what place count : ℕ) → (what ≡ 0 → ⊥) → callOf what place count ≡ post place count
@@ -131,9 +132,9 @@ pub all-made : (calls old : List ℕ) (n : ℕ) → n ≡ min (length calls / 3)
 unfolding madeCalls
 all-made calls old n e = cases (leb (length calls / 3) (length old / 3))
     (λ q. let h = leb-true (length calls / 3) (length old / 3) q in
-      take-all n (callsOf calls) (omega (arith, length-calls calls)) ∙ sym (take-all (length old / 3) (callsOf calls) (omega (arith, length-calls calls))))
+    take-all n (callsOf calls) (omega (arith, length-calls calls)) ∙ sym (take-all (length old / 3) (callsOf calls) (omega (arith, length-calls calls))))
     (λ q. let h = leb-false (length calls / 3) (length old / 3) q in
-      let room : n ≡ length old / 3 = omega arith in ap (λ (k : ℕ). take k (callsOf calls)) room)
+    let room : n ≡ length old / 3 = omega arith in ap (λ (k : ℕ). take k (callsOf calls)) room)
 
 -- ---- the numbers of the answers
 
@@ -182,12 +183,13 @@ module _ (limit : ℕ) (calls old : List ℕ) (s : Arbiter) (n : ℕ) where
   pub standing-first : n ≡ min (length calls / 3) (length old / 3) → Standing limit calls old s n old s 0
   unfolding end answers wordsOf writtenOver
   standing-first e = record {
-      within = omega arith;
-      calls-fit = omega arith;
-      answers-fit = omega arith;
-      same-length = refl;
-      after = refl;
-      written = refl }
+    within = omega arith;
+    calls-fit = omega arith;
+    answers-fit = omega arith;
+    same-length = refl;
+    after = refl;
+    written = refl;
+  }
 
   -- the numbers of the answers of the first i calls
   length-so-far : (i : ℕ) → 3 * i ≤ length calls → length (wordsOf (answers (called limit) s (take i (callsOf calls)))) ≡ 3 * i
@@ -214,11 +216,12 @@ module _ (limit : ℕ) (calls old : List ℕ) (s : Arbiter) (n : ℕ) where
         same-length = simp length-set (g .same-length);
         after = made .state ∙ ap (λ (x : Arbiter). called limit x call .state) (g .after) ∙ sym (ap (end (called limit) s) next ∙ end-more (called limit) s before call);
         written =
-          ap (λ (l : List ℕ). set (set (set l (3 * i) (m .words .0)) (3 * i + 1) (m .words .1)) (3 * i + 2) (m .words .2)) (g .written)
-          ∙ written-more (wordsOf heard) old (3 * i) (m .words .0) (m .words .1) (m .words .2) (length-so-far i (omega arith)) (omega arith)
-          ∙ ap (λ (l : List ℕ). writtenOver (wordsOf heard ++ l) old) (made .words ∙ ap (λ (x : Arbiter). answerWords (called limit x call .answer)) (g .after))
-          ∙ ap (λ (l : List ℕ). writtenOver l old) (sym (words-more heard (called limit (end (called limit) s before) call .answer)))
-          ∙ ap (λ (l : List Answer). writtenOver (wordsOf l) old) (sym (ap (answers (called limit) s) next ∙ answers-more (called limit) s before call)) }
+            ap (λ (l : List ℕ). set (set (set l (3 * i) (m .words .0)) (3 * i + 1) (m .words .1)) (3 * i + 2) (m .words .2)) (g .written)
+            ∙ written-more (wordsOf heard) old (3 * i) (m .words .0) (m .words .1) (m .words .2) (length-so-far i (omega arith)) (omega arith)
+            ∙ ap (λ (l : List ℕ). writtenOver (wordsOf heard ++ l) old) (made .words ∙ ap (λ (x : Arbiter). answerWords (called limit x call .answer)) (g .after))
+            ∙ ap (λ (l : List ℕ). writtenOver l old) (sym (words-more heard (called limit (end (called limit) s before) call .answer)))
+            ∙ ap (λ (l : List Answer). writtenOver (wordsOf l) old) (sym (ap (answers (called limit) s) next ∙ answers-more (called limit) s before call));
+      }
 
   -- all of them
   pub standing-last : (words : List ℕ) (state : Arbiter) (i : ℕ) → Standing limit calls old s n words state i → n ≤ i → n ≡ min (length calls / 3) (length old / 3)

@@ -1,13 +1,13 @@
 // A start and a list of calls from it, each on the state that the one before handed back. Calls and answers are plain numbers in
 // lists that the caller lends: there is no heap to keep them on, and every language can lend a list of numbers.
-use arbiter::units::Slots;
-use arbiter::units::Transfers;
 use arbiter::refusals::Cause;
 use arbiter::refusals::Named;
-use arbiter::table::Table;
 use arbiter::start::StartAnswer;
 use arbiter::start::Started;
 use arbiter::state::Arbiter;
+use arbiter::table::Table;
+use arbiter::units::Slots;
+use arbiter::units::Transfers;
 use calls::post::PostAnswer;
 use calls::post::post;
 use calls::slot::SlotAnswer;
@@ -57,8 +57,14 @@ fn make_post(s: Arbiter, place: u32, count: u32) -> Made
     let next = r.state;
     let a = r.answer;
     match a {
-        PostAnswer::Accepted => Made { state: next, words: Words(0, 0, 0) },
-        PostAnswer::Refused(c) => Made { state: next, words: refusal_words(c) },
+        PostAnswer::Accepted => Made {
+            state: next,
+            words: Words(0, 0, 0),
+        },
+        PostAnswer::Refused(c) => Made {
+            state: next,
+            words: refusal_words(c),
+        },
     }
 }
 
@@ -69,9 +75,18 @@ fn make_slot(s: Arbiter) -> Made
     let next = r.state;
     let a = r.answer;
     match a {
-        SlotAnswer::Granted(stamp, p) => Made { state: next, words: Words(1, stamp.0, p as u64) },
-        SlotAnswer::Idle(stamp) => Made { state: next, words: Words(2, stamp.0, 0) },
-        SlotAnswer::Refused(c) => Made { state: next, words: refusal_words(c) },
+        SlotAnswer::Granted(stamp, p) => Made {
+            state: next,
+            words: Words(1, stamp.0, p as u64),
+        },
+        SlotAnswer::Idle(stamp) => Made {
+            state: next,
+            words: Words(2, stamp.0, 0),
+        },
+        SlotAnswer::Refused(c) => Made {
+            state: next,
+            words: refusal_words(c),
+        },
     }
 }
 
@@ -130,6 +145,9 @@ pub fn replay(t: Table, first: Slots, calls: &[u32], answers: &mut [u64]) -> Sta
     let a = begun.answer;
     match a {
         StartAnswer::Refused(_) => begun,
-        StartAnswer::Started => Started { state: make_calls(s, calls, answers), answer: StartAnswer::Started },
+        StartAnswer::Started => Started {
+            state: make_calls(s, calls, answers),
+            answer: StartAnswer::Started,
+        },
     }
 }

@@ -1,3 +1,4 @@
+-- `replay::make_call` meets its contract. 0 is a slot, any other number a post. Assumes nothing.
 use borrow.Author.Needs.{needs}
 use Rattle.replay.specs.Replay.{callOf}
 use Rattle.replay.proofs.Replays.{call-post}

@@ -1,3 +1,4 @@
+-- `replay::make_calls` meets its contract. The loop's invariant, `Standing`: state and lent numbers are those of the run of the first i calls. Assumes nothing.
 use Prim.Native.Nat.{_-_}
 use native.Mathlib.Omega.{arith}
 use borrow.Author.Needs.{needs}

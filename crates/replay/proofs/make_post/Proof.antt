@@ -1,3 +1,4 @@
+-- `replay::make_post` meets its contract. By the case of the post's answer; no refusal of a call names a place. Assumes nothing.
 use mathlib.Core.Path.{refl}
 use borrow.Author.Needs.{needs}
 use Rattle.arbiter.specs.Limits.{maxPlaces}

@@ -1,3 +1,4 @@
+-- `replay::place_word` meets its contract. The sum fits by the requires. Assumes nothing.
 use native.Mathlib.Omega.{arith}
 use borrow.Author.Needs.{needs}
 use Rattle.replay.specs.Replay.{placeWord}

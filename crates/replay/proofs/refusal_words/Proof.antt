@@ -1,3 +1,4 @@
+-- `replay::refusal_words` meets its contract. The number and the place are those of the refusal. Assumes nothing.
 use borrow.Author.Needs.{needs}
 use Rattle.replay.specs.Replay.{answerWords}
 use Rattle.replay.proofs.refusal_words.Statement.{statement}

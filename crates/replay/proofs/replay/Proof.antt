@@ -1,3 +1,4 @@
+-- `replay::replay` meets its contract. A refused start makes no call; an accepted one makes them all. Assumes nothing.
 use borrow.Author.Needs.{needs}
 use Rattle.arbiter.specs.Limits.{maxPlaces}
 use Rattle.replay.proofs.Replays.{replay-refused, replay-started}

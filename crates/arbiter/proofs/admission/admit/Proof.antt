@@ -1,3 +1,5 @@
+-- `arbiter::admission::admit` meets its contract. The checks 1 to 6 first; check 7 is made only where they found no fault.
+-- Assumes nothing.
 use mathlib.Core.Path.{ap, sym, _∙_}
 use borrow.Author.Needs.{needs}
 use Rattle.arbiter.specs.Refusals.{verdictOf, then}

@@ -1,3 +1,4 @@
+-- `arbiter::admission::check_need` meets its contract. One gate. Assumes nothing.
 use mathlib.Core.Path.{sym, _∙_}
 use native.Mathlib.Omega.{arith}
 use borrow.Author.Tests.{lt-leb, le-leb}

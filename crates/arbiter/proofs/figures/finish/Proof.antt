@@ -1,3 +1,5 @@
+-- `arbiter::figures::finish` meets its contract. The wait, and j times D, which fits since j has 32 bits and D is at most
+-- 65,535. Assumes nothing.
 use mathlib.Core.Path.{sym, _∙_}
 use Prim.Native.Nat.{_≤_}
 use native.Mathlib.Omega.{arith}
@@ -30,26 +32,26 @@ cast-rounded-up-2 : tie.Need-cast-rounded-up-2
 cast-rounded-up-2 c = search needs
 
 mul-rounded-up : tie.Need-mul-rounded-up
-mul-rounded-up c = 
+mul-rounded-up c =
     let a = (c .before .before .before) in
     let j : a .args .j .0 ≤ 4294967295 = omega (arith, c .struct-known .given) in
     let m = mul-le-mul j (facts a .denominator-most) in
     omega (arith, m)
 
 cast-rounded-up-3 : tie.Need-cast-rounded-up-3
-cast-rounded-up-3 c = 
+cast-rounded-up-3 c =
     let f = facts (c .before .before .before) in
     omega (arith, f .rates, f .denominator-most)
 
 rounded-up-requires : tie.Need-rounded-up-requires
-rounded-up-requires c κs = 
+rounded-up-requires c κs =
     let a = (c .before .before .before) in
     let j : a .args .j .0 ≤ 4294967295 = omega (arith, c .struct-known .given) in
     let m = mul-le-mul j (facts a .denominator-most) in
     omega (arith, m, facts a .own-rate, facts a .rates, facts a .denominator-most)
 
 add-t15 : tie.Need-add-t15
-add-t15 c = 
+add-t15 c =
     let a = (c .before .before .before .before .before) in
     let j : a .args .j .0 ≤ 4294967295 = omega (arith, c .before .before .struct-known .given) in
     let m = mul-le-mul j (facts a .denominator-most) in
@@ -57,7 +59,7 @@ add-t15 c =
 
 returns : tie.Need-returns
 unfolding finish
-returns c = 
+returns c =
     let f = facts (c .before .before .before .before .before) in
     rw (f .same-row, c .before .before .before .wait .ensures .0, c .before .rounded-up .ensures .0)
 

@@ -1,3 +1,5 @@
+-- `arbiter::figures::rounded_up` meets its contract. The definition itself; a quotient is at most what is divided. Assumes
+-- nothing.
 use mathlib.Core.Path.{refl}
 use Prim.Native.Nat.{_+_, _-_}
 use native.Mathlib.Omega.{arith}

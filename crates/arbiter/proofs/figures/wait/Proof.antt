@@ -1,3 +1,5 @@
+-- `arbiter::figures::wait` meets its contract. The checks 1 to 6 leave R at least 1, and the sums are those of the rows of
+-- the table. Assumes nothing.
 use mathlib.Core.Path.{sym, _∙_}
 use native.Mathlib.Omega.{arith}
 use borrow.Author.Needs.{needs}
@@ -24,15 +26,16 @@ bursts-above-requires : tie.Need-bursts-above-requires
 bursts-above-requires c κs = omega (arith, facts (c .before) .place)
 
 rounded-up-requires : tie.Need-rounded-up-requires
-rounded-up-requires c κs = 
+rounded-up-requires c κs =
     let f = facts (c .before .before) in
     omega (arith, f .place, f .own-rate, f .rates, f .denominator-most, c .before .rates-above .ensures .0, c .bursts-above .ensures .1)
 
 returns : tie.Need-returns
-returns c = 
-    let f = facts (c .before .before .before) in
-    (rw (f .same-rates, f .same-bursts, ← c .before .before .rates-above .ensures .0, ← c .before .bursts-above .ensures .0) (c .rounded-up .ensures .0),
-      omega (arith, f .place, f .own-rate, f .rates, f .denominator-most, c .before .before .rates-above .ensures .0, c .before .bursts-above .ensures .1, c .rounded-up .ensures .1))
+returns c =
+    let f = facts (c .before .before .before) in (
+      rw (f .same-rates, f .same-bursts, ← c .before .before .rates-above .ensures .0, ← c .before .bursts-above .ensures .0) (c .rounded-up .ensures .0),
+      omega (arith, f .place, f .own-rate, f .rates, f .denominator-most, c .before .before .rates-above .ensures .0, c .before .bursts-above .ensures .1, c .rounded-up .ensures .1),
+    )
 
 pub wait-spec : {M : Type 1} → statement M
 wait-spec =

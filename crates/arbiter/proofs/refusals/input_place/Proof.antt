@@ -1,3 +1,4 @@
+-- `arbiter::refusals::input_place` meets its contract. Each arm's place is that of its case. Assumes nothing.
 use mathlib.Core.Path.{ap, sym}
 use borrow.Author.Needs.{needs}
 use Rattle.arbiter.specs.Refusals.{inputPlace}

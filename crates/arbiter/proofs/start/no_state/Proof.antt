@@ -1,3 +1,4 @@
+-- `arbiter::start::no_state` meets its contract. The definition itself. Assumes nothing.
 use mathlib.Core.Path.{refl}
 use Rattle.arbiter.specs.Start.{noTable, noState}
 use Rattle.arbiter.proofs.start.no_state.Statement.{statement}

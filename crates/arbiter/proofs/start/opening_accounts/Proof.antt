@@ -1,3 +1,5 @@
+-- `arbiter::start::opening_accounts` meets its contract. The loop's invariant: the first p accounts are fresh, and the
+-- others as they were made. Assumes nothing.
 use mathlib.Core.Path.{_≡_, refl, sym, _∙_}
 use mathlib.Core.List.{map, _++_}
 use Prim.Native.Nat.{_-_, _≤_}
@@ -43,15 +45,17 @@ loop-less : tie.Need-loop-less Inv-loop μ-loop
 loop-less c = omega arith
 
 loop-again : tie.Need-loop-again Inv-loop μ-loop
-loop-again c = 
+loop-again c =
     let a = (c .before .before .before) in
     let l = c .before .before .loop in
-    let rs = a .args .t1 .requestors in
-    (omega arith, l .inv .1,
-      overwrite-more noAccount (map fresh rs) _ _ (l .p) _ (omega (arith, length-map rs fresh, rows a)) (omega (arith, l .inv .1)) (l .inv .2) (sym (List·getD-map fresh rs (l .p) noRequestor)))
+    let rs = a .args .t1 .requestors in (
+      omega arith,
+      l .inv .1,
+      overwrite-more noAccount (map fresh rs) _ _ (l .p) _ (omega (arith, length-map rs fresh, rows a)) (omega (arith, l .inv .1)) (l .inv .2) (sym (List·getD-map fresh rs (l .p) noRequestor)),
+    )
 
 returns : tie.Need-returns Inv-loop μ-loop
-returns c = 
+returns c =
     let a = (c .before .before) in
     let l = c .before .loop in
     let rs = a .args .t1 .requestors in

@@ -1,3 +1,4 @@
+-- `arbiter::start::refuse` meets its contract. The definition itself. Assumes nothing.
 use borrow.Author.Needs.{needs}
 use Rattle.arbiter.proofs.start.refuse.Statement.{statement}
 use Rattle.arbiter.proofs.start.refuse.Tie as tie

@@ -1,3 +1,4 @@
+-- `arbiter::state::account_is_clear` meets its contract. Two fields. Assumes nothing.
 use borrow.Author.Tests.{eq-eqb, ne-eqb}
 use Rattle.arbiter.proofs.state.account_is_clear.Statement.{statement}
 use Rattle.arbiter.proofs.state.account_is_clear.Tie as tie

@@ -1,3 +1,5 @@
+-- `arbiter::state::accounts_hold` meets its contract. The loop's invariant, `Held`: the two sums over the first p places,
+-- and that every test so far passed. Assumes nothing.
 use mathlib.Core.List.{List}
 use mathlib.Core.Path.{_≡_, refl, sym, _∙_}
 use mathlib.Core.Bool.{true}
@@ -42,10 +44,14 @@ held-more n rs accounts credits bursts p c b h ec eb fc fb q s v =
     let bs : bursts + b ≡ total burst (take (suc p) rs) = omega (arith, total-take-suc burst noRequestor refl p rs, v .bursts-are) in
     rw (add-one p)
     (record {
-      below = h; credits-are = cs; bursts-are = bs;
-      credits-fit = omega (arith, v .credits-fit); bursts-fit = omega (arith, v .bursts-fit);
+      below = h;
+      credits-are = cs;
+      bursts-are = bs;
+      credits-fit = omega (arith, v .credits-fit);
+      bursts-fit = omega (arith, v .bursts-fit);
       backlogs = every-more backlogFits noAccount accounts p (v .backlogs) q;
-      sums = true-and (upTo p (creditsHold rs accounts)) _ (v .sums) (le-leb (total credit (take (suc p) accounts)) (total burst (take (suc p) rs)) (omega arith)) })
+      sums = true-and (upTo p (creditsHold rs accounts)) _ (v .sums) (le-leb (total credit (take (suc p) accounts)) (total burst (take (suc p) rs)) (omega arith));
+    })
 
 abbrev Inv-loop : tie.InvT-loop
 Inv-loop s t n credits₀ bursts₀ p₀ credits bursts p = Held n (t .requestors) (s .accounts) credits bursts p
@@ -73,7 +79,7 @@ element-copy-out-a : tie.Need-element-copy-out-a Inv-loop μ-loop
 element-copy-out-a c = omega arith
 
 returns : tie.Need-returns Inv-loop μ-loop
-returns c = 
+returns c =
     let a = (c .before .before .before .before .before .before .before .before) in
     let l = c .before .before .before .before .before .before .loop in
     let rs = a .args .t1 .table .requestors in
@@ -97,7 +103,7 @@ add-bursts : tie.Need-add-bursts Inv-loop μ-loop
 add-bursts c = omega arith
 
 returns-2 : tie.Need-returns-2 Inv-loop μ-loop
-returns-2 c = 
+returns-2 c =
     let a = (c .before .before .before .before .before .before .before .before .before .before .before) in
     let l = c .before .before .before .before .before .before .before .before .before .loop in
     let rs = a .args .t1 .table .requestors in
@@ -115,18 +121,18 @@ loop-less : tie.Need-loop-less Inv-loop μ-loop
 loop-less c = omega arith
 
 loop-again : tie.Need-loop-again Inv-loop μ-loop
-loop-again c = 
+loop-again c =
     let a = (c .before .before .before .before .before .before .before .before .before .before .before) in
     let l = c .before .before .before .before .before .before .before .before .before .loop in
     let rs = a .args .t1 .table .requestors in
     let accounts = a .args .t1 .accounts in
     let n = a .args .t1 .table .count in
     held-more n rs accounts (l .credits) (l .bursts) (l .p) (getD accounts (l .p) noAccount .credit) (getD rs (l .p) noRequestor .burst)
-      (omega arith) refl refl (omega (arith, c .before .before .struct-known2 .given)) (omega (arith, c .before .struct-known3 .given))
-      (le-leb _ _ (c .before .before .before .if1 .left)) (c .if2 .left) (l .inv)
+    (omega arith) refl refl (omega (arith, c .before .before .struct-known2 .given)) (omega (arith, c .before .struct-known3 .given))
+    (le-leb _ _ (c .before .before .before .if1 .left)) (c .if2 .left) (l .inv)
 
 returns-3 : tie.Need-returns-3 Inv-loop μ-loop
-returns-3 c = 
+returns-3 c =
     let a = (c .before .before .before) in
     let l = c .before .loop in
     let rs = a .args .t1 .table .requestors in

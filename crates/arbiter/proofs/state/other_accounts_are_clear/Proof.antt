@@ -1,3 +1,5 @@
+-- `arbiter::state::other_accounts_are_clear` meets its contract. The loop's invariant: the accounts from p on are clear
+-- exactly if those from N on are. Assumes nothing.
 use mathlib.Core.Path.{_≡_, refl, sym, _∙_}
 use Prim.Native.Nat.{_-_, _≤_}
 use native.Mathlib.Omega.{arith}
@@ -21,7 +23,7 @@ long : (c : tie.Start Inv-loop μ-loop) → length (c .args .t1 .accounts) ≡ m
 long c = sym (length-map (c .args .t1 .accounts) _) ∙ c .good .0 .1 .1 .1 .1 .0 .1 .0 .1
 
 loop-holds : tie.Need-loop-holds Inv-loop μ-loop
-loop-holds c = ((c .before) .pre, refl)
+loop-holds c = (omega arith, refl)
 
 mul-a : tie.Need-mul-a Inv-loop μ-loop
 mul-a c = omega arith
@@ -33,7 +35,7 @@ account-is-clear-requires : tie.Need-account-is-clear-requires Inv-loop μ-loop
 account-is-clear-requires c κs = omega arith
 
 returns : tie.Need-returns Inv-loop μ-loop
-returns c = 
+returns c =
     let a = (c .before .before .before .before .before .before) in
     let l = c .before .before .before .before .loop in
     sym (l .inv .1 ∙ every-stop accountClear noAccount (a .args .t1 .accounts) (l .p) (omega (arith, long a)) (sym (c .before .account-is-clear .ensures) ∙ not-true _ (c .if1 .taken)))
@@ -45,13 +47,13 @@ loop-less : tie.Need-loop-less Inv-loop μ-loop
 loop-less c = omega arith
 
 loop-again : tie.Need-loop-again Inv-loop μ-loop
-loop-again c = 
+loop-again c =
     let a = (c .before .before .before .before .before .before) in
     let l = c .before .before .before .before .loop in
     (omega arith, l .inv .1 ∙ every-pass accountClear noAccount (a .args .t1 .accounts) (l .p) (omega (arith, long a)) (sym (c .before .account-is-clear .ensures) ∙ not-false _ (c .if1 .left)))
 
 returns-2 : tie.Need-returns-2 Inv-loop μ-loop
-returns-2 c = 
+returns-2 c =
     let a = (c .before .before .before) in
     let l = c .before .loop in
     sym (l .inv .1 ∙ every-end accountClear noAccount (a .args .t1 .accounts) (l .p) (omega (arith, long a)))

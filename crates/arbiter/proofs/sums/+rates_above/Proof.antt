@@ -1,3 +1,5 @@
+-- `arbiter::sums::rates_above` meets its contract. The sum for one place fewer, and the rate of the place between. The
+-- measure is the place. Assumes nothing.
 use mathlib.Core.Path.{refl}
 use Prim.Native.Nat.{ℕ, _<_}
 use native.Mathlib.Omega.{arith}

@@ -1,3 +1,4 @@
+-- `arbiter::table::check_row` meets its contract. Four gates, in the order of the definition. Assumes nothing.
 use mathlib.Core.Path.{sym, _∙_}
 use borrow.Author.Tests.{not-true, not-false}
 use borrow.Author.Needs.{needs}

@@ -1,3 +1,5 @@
+-- `arbiter::table::check_rows` meets its contract. The loop's invariant: the walk over the rows from p on finds what the
+-- walk over all of them finds. Assumes nothing.
 use mathlib.Core.Path.{_≡_, refl, ap, sym, _∙_}
 use Prim.Native.Nat.{_-_, _≤_}
 use native.Mathlib.Omega.{arith}
@@ -41,7 +43,7 @@ loop-less : tie.Need-loop-less Inv-loop μ-loop
 loop-less c = omega arith
 
 loop-again : tie.Need-loop-again Inv-loop μ-loop
-loop-again c = 
+loop-again c =
     let a = c .before .before .before .before .before .before in
     let l = c .before .before .before .before .before .loop in
     let e = sym (c .before .before .check-row .ensures) ∙ ap verdictOf (c .enum-told .given .1) in
@@ -51,13 +53,13 @@ enum-told-2 : tie.Need-enum-told-2 Inv-loop μ-loop
 enum-told-2 c = omega arith
 
 returns : tie.Need-returns Inv-loop μ-loop
-returns c = 
+returns c =
     let a = c .before .before in
     let l = c .before .loop in
     sym (l .inv .1 ∙ each-end (rowVerdict (a .args .t1 .denominator)) (a .args .t1 .requestors) (a .args .t1 .count) (l .p) (omega arith))
 
 returns-2 : tie.Need-returns-2 Inv-loop μ-loop
-returns-2 c = 
+returns-2 c =
     let a = c .before .before .before .before .before .before in
     let l = c .before .before .before .before .before .loop in
     let e = sym (c .before .before .check-row .ensures) ∙ ap verdictOf (c .enum-told2 .given .1) in

@@ -1,8 +1,10 @@
+-- `arbiter::table::check_table` meets its contract. 1, 2, and then the three other checks, joined in their order. Assumes nothing.
 use mathlib.Core.Path.{sym, _∙_}
-use borrow.Author.Tests.{not-true, not-false, lt-leb, le-leb}
+use borrow.Author.Tests.{not-true, not-false}
 use borrow.Author.Needs.{needs}
 use Rattle.lists.proofs.Tests.{in-range-true}
-use Rattle.arbiter.specs.Refusals.{gate, then}
+use Rattle.arbiter.proofs.Checks.{gate-passed, gate-then}
+use Rattle.arbiter.specs.Refusals.{gate}
 use Rattle.arbiter.specs.Table.{tableVerdict}
 use Rattle.arbiter.proofs.table.check_table.Statement.{statement}
 use Rattle.arbiter.proofs.table.check_table.Tie as tie
@@ -17,52 +19,37 @@ in-range-requires : tie.Need-in-range-requires
 in-range-requires c κs = search needs
 
 returns : tie.Need-returns
-unfolding tableVerdict gate then
+unfolding tableVerdict gate
 returns c = rw (sym (c .before .in-range .ensures) ∙ not-true _ (c .if1 .taken))
 
 in-range-requires-2 : tie.Need-in-range-requires-2
 in-range-requires-2 c κs = search needs
 
 returns-2 : tie.Need-returns-2
-unfolding tableVerdict gate then
+unfolding tableVerdict gate
 returns-2 c = rw (sym (c .before .before .before .in-range .ensures) ∙ not-false _ (c .before .before .if1 .left), sym (c .before .in-range2 .ensures) ∙ not-true _ (c .if2 .taken))
 
-rest-is-clear-requires : tie.Need-rest-is-clear-requires
-rest-is-clear-requires c κs = in-range-true _ _ _ (sym (c .before .in-range2 .ensures) ∙ not-false _ (c .if2 .left)) .1
-
-returns-3 : tie.Need-returns-3
-unfolding tableVerdict gate then
-returns-3 c = rw (sym (c .before .before .before .before .before .in-range .ensures) ∙ not-false _ (c .before .before .before .before .if1 .left), sym (c .before .before .before .in-range2 .ensures) ∙ not-false _ (c .before .before .if2 .left), sym (c .before .rest-is-clear .ensures) ∙ not-true _ (c .if3 .taken))
+check-tail-requires : tie.Need-check-tail-requires
+check-tail-requires c κs = in-range-true _ _ _ (sym (c .before .in-range2 .ensures) ∙ not-false _ (c .if2 .left)) .1
 
 check-rows-requires : tie.Need-check-rows-requires
-check-rows-requires c κs = in-range-true _ _ _ (sym (c .before .before .before .in-range2 .ensures) ∙ not-false _ (c .before .before .if2 .left)) .1
+check-rows-requires c κs = in-range-true _ _ _ (sym (c .before .before .in-range2 .ensures) ∙ not-false _ (c .before .if2 .left)) .1
 
-enum-told : tie.Need-enum-told
-enum-told c = search needs
+check-rate-sum-requires : tie.Need-check-rate-sum-requires
+check-rate-sum-requires c κs = in-range-true _ _ _ (sym (c .before .before .before .in-range2 .ensures) ∙ not-false _ (c .before .before .if2 .left)) .1
 
-enum-told-2 : tie.Need-enum-told-2
-enum-told-2 c = search needs
+first-fault-requires : tie.Need-first-fault-requires
+first-fault-requires c κs = search needs
 
-cast-if4 : tie.Need-cast-if4
-cast-if4 c = search needs
+first-fault-requires-2 : tie.Need-first-fault-requires-2
+first-fault-requires-2 c κs = search needs
 
-rates-above-requires : tie.Need-rates-above-requires
-rates-above-requires c κs = in-range-true _ _ _ (sym (c .before .before .before .before .before .before .in-range2 .ensures) ∙ not-false _ (c .before .before .before .before .before .if2 .left)) .1
-
-returns-4 : tie.Need-returns-4
-unfolding tableVerdict gate then
-returns-4 c = 
-    rw (sym (c .before .before .before .before .before .before .before .before .in-range .ensures) ∙ not-false _ (c .before .before .before .before .before .before .before .if1 .left), sym (c .before .before .before .before .before .before .in-range2 .ensures) ∙ not-false _ (c .before .before .before .before .before .if2 .left), sym (c .before .before .before .before .rest-is-clear .ensures) ∙ not-false _ (c .before .before .before .if3 .left), ← c .before .before .check-rows .ensures, c .enum-told .given .1)
-
-returns-5 : tie.Need-returns-5
-unfolding tableVerdict gate then
-returns-5 c = 
-    rw (sym (c .before .before .before .before .before .before .before .before .before .before .in-range .ensures) ∙ not-false _ (c .before .before .before .before .before .before .before .before .before .if1 .left), sym (c .before .before .before .before .before .before .before .before .in-range2 .ensures) ∙ not-false _ (c .before .before .before .before .before .before .before .if2 .left), sym (c .before .before .before .before .before .before .rest-is-clear .ensures) ∙ not-false _ (c .before .before .before .before .before .if3 .left), ← c .before .before .before .before .check-rows .ensures, c .before .before .enum-told2 .given .1, lt-leb _ _ (rw (c .before .rates-above .ensures .0) at (c .if4 .taken)))
-
-returns-6 : tie.Need-returns-6
-unfolding tableVerdict gate then
-returns-6 c = 
-    rw (sym (c .before .before .before .before .before .before .before .before .before .before .in-range .ensures) ∙ not-false _ (c .before .before .before .before .before .before .before .before .before .if1 .left), sym (c .before .before .before .before .before .before .before .before .in-range2 .ensures) ∙ not-false _ (c .before .before .before .before .before .before .before .if2 .left), sym (c .before .before .before .before .before .before .rest-is-clear .ensures) ∙ not-false _ (c .before .before .before .before .before .if3 .left), ← c .before .before .before .before .check-rows .ensures, c .before .before .enum-told2 .given .1, le-leb _ _ (rw (c .before .rates-above .ensures .0) at (c .if4 .left)))
+returns-3 : tie.Need-returns-3
+unfolding tableVerdict
+returns-3 c =
+    c .first-fault2 .ensures
+    ∙ rw (c .before .first-fault .ensures, c .before .before .before .before .check-tail .ensures, c .before .before .before .check-rows .ensures, c .before .before .check-rate-sum .ensures) (gate-then _ _ _)
+    ∙ sym (gate-passed _ _ _ (sym (c .before .before .before .before .before .before .before .before .in-range .ensures) ∙ not-false _ (c .before .before .before .before .before .before .before .if1 .left)) ∙ gate-passed _ _ _ (sym (c .before .before .before .before .before .before .in-range2 .ensures) ∙ not-false _ (c .before .before .before .before .before .if2 .left)))
 
 pub check-table-spec : {M : Type 1} → statement M
 check-table-spec =
@@ -74,13 +61,9 @@ check-table-spec =
     returns
     in-range-requires-2
     returns-2
-    rest-is-clear-requires
-    returns-3
+    check-tail-requires
     check-rows-requires
-    enum-told
-    enum-told-2
-    cast-if4
-    rates-above-requires
-    returns-4
-    returns-5
-    returns-6)
+    check-rate-sum-requires
+    first-fault-requires
+    first-fault-requires-2
+    returns-3)

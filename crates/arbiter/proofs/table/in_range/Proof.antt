@@ -1,3 +1,4 @@
+-- `arbiter::table::in_range` meets its contract. Two comparisons. Assumes nothing.
 use borrow.Author.Tests.{lt-leb, le-leb}
 use Rattle.arbiter.proofs.table.in_range.Statement.{statement}
 use Rattle.arbiter.proofs.table.in_range.Tie as tie

@@ -1,3 +1,4 @@
+-- `arbiter::table::is_clear` meets its contract. Four fields, in the order of the definition. Assumes nothing.
 use borrow.Author.Tests.{eq-eqb, ne-eqb}
 use Rattle.arbiter.proofs.table.is_clear.Statement.{statement}
 use Rattle.arbiter.proofs.table.is_clear.Tie as tie

@@ -1,3 +1,5 @@
+-- `arbiter::table::rest_is_clear` meets its contract. The loop's invariant: the rows from p on are clear exactly if those
+-- from N on are. Assumes nothing.
 use mathlib.Core.Path.{_≡_, refl, sym, _∙_}
 use Prim.Native.Nat.{_-_, _≤_}
 use native.Mathlib.Omega.{arith}
@@ -21,7 +23,7 @@ long : (c : tie.Start Inv-loop μ-loop) → length (c .args .t1 .requestors) ≡
 long c = sym (length-map (c .args .t1 .requestors) _) ∙ c .good .0 .1 .1 .1 .1 .0 .1 .0 .1
 
 loop-holds : tie.Need-loop-holds Inv-loop μ-loop
-loop-holds c = (c .pre, refl)
+loop-holds c = (omega arith, refl)
 
 mul-r : tie.Need-mul-r Inv-loop μ-loop
 mul-r c = omega arith
@@ -33,7 +35,7 @@ is-clear-requires : tie.Need-is-clear-requires Inv-loop μ-loop
 is-clear-requires c κs = omega arith
 
 returns : tie.Need-returns Inv-loop μ-loop
-returns c = 
+returns c =
     let a = c .before .before .before .before .before in
     let l = c .before .before .before .before .loop in
     sym (l .inv .1 ∙ every-stop requestorClear noRequestor (a .args .t1 .requestors) (l .p) (omega (arith, long a)) (sym (c .before .is-clear .ensures) ∙ not-true _ (c .if1 .taken)))
@@ -45,13 +47,13 @@ loop-less : tie.Need-loop-less Inv-loop μ-loop
 loop-less c = omega arith
 
 loop-again : tie.Need-loop-again Inv-loop μ-loop
-loop-again c = 
+loop-again c =
     let a = c .before .before .before .before .before in
     let l = c .before .before .before .before .loop in
     (omega arith, l .inv .1 ∙ every-pass requestorClear noRequestor (a .args .t1 .requestors) (l .p) (omega (arith, long a)) (sym (c .before .is-clear .ensures) ∙ not-false _ (c .if1 .left)))
 
 returns-2 : tie.Need-returns-2 Inv-loop μ-loop
-returns-2 c = 
+returns-2 c =
     let a = c .before .before in
     let l = c .before .loop in
     sym (l .inv .1 ∙ every-end requestorClear noRequestor (a .args .t1 .requestors) (l .p) (omega (arith, long a)))

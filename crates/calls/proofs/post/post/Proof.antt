@@ -1,3 +1,5 @@
+-- `calls::post::post` meets its contract. 23, 11, 21 in this order. In a sound state the backlog is within its limit, so
+-- what is free can be worked out. Assumes nothing.
 use mathlib.Core.Path.{sym, _∙_}
 use Prim.Native.Nat.{_+_, _≤_, _<_}
 use native.Mathlib.Omega.{arith}
@@ -20,10 +22,10 @@ inside c =
     let a = c .before .before .before .before in
     let s = a .args .t1 in
     let v =
-        sound-open maxPlaces s
-        (sym (length-map (s .table .requestors) _) ∙ a .good .0 .1 .1 .0 .1 .1 .1 .1 .0 .1 .0 .1)
-        (sym (length-map (s .accounts) _) ∙ a .good .0 .1 .1 .1 .1 .0 .1 .0 .1)
-        (sym (c .before .before .before .is-sound .ensures) ∙ not-false _ (c .before .before .if1 .left)) in
+    sound-open maxPlaces s
+    (sym (length-map (s .table .requestors) _) ∙ a .good .0 .1 .1 .0 .1 .1 .1 .1 .0 .1 .0 .1)
+    (sym (length-map (s .accounts) _) ∙ a .good .0 .1 .1 .1 .1 .0 .1 .0 .1)
+    (sym (c .before .before .before .is-sound .ensures) ∙ not-false _ (c .before .before .if1 .left)) in
     (omega (arith, places-fit s v, c .if2 .left), v .backlog-most (a .args .place) (c .if2 .left))
 
 is-sound-requires : tie.Need-is-sound-requires
@@ -57,7 +59,7 @@ refuse-requires-3 c κs = search needs
 
 returns-3 : tie.Need-returns-3
 unfolding called ruleVerdict gate
-returns-3 c = 
+returns-3 c =
     let a = (c .before .before .before .before .before .before .before .before .before .before) .args in
     rw (sym (c .before .before .before .before .before .before .before .before .before .is-sound .ensures) ∙ not-false _ (c .before .before .before .before .before .before .before .before .if1 .left), lt-ltb _ _ (c .before .before .before .before .before .before .if2 .left), lt-leb (backlog (accountAt (a .place) (a .t1 .accounts)) + a .count .0) maxBacklog (omega (arith, c .before .if3 .taken))) (c .refuse3 .ensures)
 
@@ -72,7 +74,7 @@ element-set-from-next c = omega (arith, inside (c .before .before .before .befor
 
 returns-4 : tie.Need-returns-4
 unfolding called ruleVerdict gate done filled more
-returns-4 c = 
+returns-4 c =
     let a = (c .before .before .before .before .before .before .before .before .before .before .before) .args in
     rw (sym (c .before .before .before .before .before .before .before .before .before .before .is-sound .ensures) ∙ not-false _ (c .before .before .before .before .before .before .before .before .before .if1 .left), lt-ltb _ _ (c .before .before .before .before .before .before .before .if2 .left), le-leb (backlog (accountAt (a .place) (a .t1 .accounts)) + a .count .0) maxBacklog (omega (arith, inside (c .before .before .before .before .before .before .before) .1, c .before .before .if3 .left)))
 

@@ -1,3 +1,4 @@
+-- `calls::slot::account_after` meets its contract. Served if the grant names the place, passed over if not. Assumes nothing.
 use borrow.Author.Tests.{eq-eqb, ne-eqb}
 use borrow.Author.Needs.{needs}
 use Rattle.calls.specs.Places.{accountAfter}

@@ -1,3 +1,5 @@
+-- `calls::slot::advance` meets its contract. The loop's invariant: the accounts are those after a slot for a table of the
+-- first p rows. Assumes nothing.
 use mathlib.Core.Path.{_≡_, ap, sym, _∙_}
 use mathlib.Core.Bool.{true}
 use Prim.Native.Nat.{_-_, _≤_}
@@ -44,15 +46,16 @@ array-copy-out-a c = omega (arith, places-fit _ (sound-here (c .before .before .
 
 account-after-requires : tie.Need-account-after-requires Inv-loop μ-loop
 unfolding grantOf
-account-after-requires c κs = 
+account-after-requires c κs =
     let a = (c .before .before .before .before .before .before .before) in
     let s = a .args .s in
     let l = c .before .before .before .loop in
     let v = sound-here a (a .pre .0) in
     let same : accountAt (l .p) (l .accounts) ≡ accountAt (l .p) (s .accounts) = ap (accountAt (l .p)) (l .inv .1) ∙ after-next (s .table .denominator) (a .args .g) (l .p) (s .table .requestors) (s .accounts) in
-    rw same
-    (sum-fits s v (l .p) (omega arith),
-      named-eligible (s .table .denominator) (s .table .count) (l .p) (s .table .requestors) (s .accounts) (a .args .g) (omega arith) (a .pre .2))
+    rw same (
+      sum-fits s v (l .p) (omega arith),
+      named-eligible (s .table .denominator) (s .table .count) (l .p) (s .table .requestors) (s .accounts) (a .args .g) (omega arith) (a .pre .2),
+    )
 
 mul-accounts : tie.Need-mul-accounts Inv-loop μ-loop
 mul-accounts c = omega (arith, places-fit _ (sound-here (c .before .before .before .before .before .before .before .before) ((c .before .before .before .before .before .before .before .before) .pre .0)))
@@ -67,21 +70,22 @@ loop-less : tie.Need-loop-less Inv-loop μ-loop
 loop-less c = omega arith
 
 loop-again : tie.Need-loop-again Inv-loop μ-loop
-loop-again c = 
+loop-again c =
     let a = (c .before .before .before .before .before .before .before .before) in
     let s = a .args .s in
     let l = c .before .before .before .before .loop in
-    let v = sound-here a (a .pre .0) in
-    (omega arith,
+    let v = sound-here a (a .pre .0) in (
+      omega arith,
       after-more (s .table .denominator) (a .args .g) (l .p) (s .table .requestors) (s .accounts) (l .accounts) (c .account-after .result)
-        (omega (arith, v .rows, places-fit s v)) (l .inv .1) (c .account-after .ensures))
+          (omega (arith, v .rows, places-fit s v)) (l .inv .1) (c .account-after .ensures),
+    )
 
 add-t22 : tie.Need-add-t22 Inv-loop μ-loop
 add-t22 c = omega arith
 
 returns : tie.Need-returns Inv-loop μ-loop
 unfolding advanced
-returns c = 
+returns c =
     let s = (c .before .before .before .before .before .before) .args .s in
     let e : c .before .before .loop .p ≡ s .table .count = omega arith in
     rw (c .before .before .loop .inv .1, e)

@@ -1,3 +1,5 @@
+-- `calls::slot::carry_out` meets its contract. The search, then the accounts, then the answer by the case of the grant.
+-- Assumes nothing.
 use mathlib.Core.Path.{_≡_, ap, sym, _∙_}
 use borrow.Author.Needs.{needs}
 use Rattle.lists.specs.Runs.{Result}
@@ -26,12 +28,12 @@ enum-known-g : tie.Need-enum-known-g
 enum-known-g c = search needs
 
 returns : tie.Need-returns
-returns c = 
+returns c =
     let e = c .enum-told .given .1 in
     carried ((c .before .before .before .before .before) .args .s) (c .before .before .advance .result) _ (sym e ∙ c .before .before .before .find .ensures) (c .before .before .advance .ensures ∙ ap (advanced ((c .before .before .before .before .before) .args .s)) e)
 
 returns-2 : tie.Need-returns-2
-returns-2 c = 
+returns-2 c =
     let e = c .before .g .given .1 in
     carried ((c .before .before .before .before .before .before) .args .s) (c .before .before .before .advance .result) _ (sym e ∙ c .before .before .before .before .find .ensures) (c .before .before .before .advance .ensures ∙ ap (advanced ((c .before .before .before .before .before .before) .args .s)) e)
 

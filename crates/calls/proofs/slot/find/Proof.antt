@@ -1,3 +1,4 @@
+-- `calls::slot::find` meets its contract. The loop's invariant: no place before p is eligible. Assumes nothing.
 use mathlib.Core.Path.{_≡_, sym, _∙_}
 use mathlib.Core.Bool.{true}
 use Prim.Native.Nat.{_-_, _≤_}
@@ -51,19 +52,19 @@ loop-less : tie.Need-loop-less Inv-loop μ-loop
 loop-less c = omega arith
 
 loop-again : tie.Need-loop-again Inv-loop μ-loop
-loop-again c = 
+loop-again c =
     let s = (c .before .before .before .before .before .before .before) .args .t1 in
     (omega arith, none-more (s .table .denominator) (s .table .requestors) (s .accounts) (c .before .before .before .before .before .loop .p) (c .before .before .before .before .before .loop .inv .1) (sym (c .before .is-eligible .ensures) ∙ c .if2 .left))
 
 returns : tie.Need-returns Inv-loop μ-loop
 unfolding grantOf
-returns c = 
+returns c =
     let s = (c .before .before .before) .args .t1 in
     sym (first-none (s .table .denominator) (s .table .count) (s .table .requestors) (s .accounts) (λ i h. c .before .loop .inv .1 i (omega arith)))
 
 returns-2 : tie.Need-returns-2 Inv-loop μ-loop
 unfolding grantOf
-returns-2 c = 
+returns-2 c =
     let s = (c .before .before .before .before .before .before .before) .args .t1 in
     let v = sound-here (c .before .before .before .before .before .before .before) ((c .before .before .before .before .before .before .before) .pre) in
     sym (first-at (s .table .denominator) (s .table .count) (c .before .before .before .before .before .loop .p) (s .table .requestors) (s .accounts) (omega arith) (omega (arith, v .rows, places-fit s v)) (c .before .before .before .before .before .loop .inv .1) (sym (c .before .is-eligible .ensures) ∙ c .if2 .taken))

@@ -1,3 +1,4 @@
+-- `calls::slot::pass` meets its contract. Waiting; not waiting and capped; not waiting and below the burst. Assumes nothing.
 use borrow.Author.Needs.{needs}
 use Rattle.calls.proofs.Accounts.{passed-waiting, passed-capped, passed-below}
 use Rattle.calls.proofs.slot.pass.Statement.{statement}

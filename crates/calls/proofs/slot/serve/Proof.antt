@@ -1,3 +1,5 @@
+-- `calls::slot::serve` meets its contract. An eligible place has a transfer waiting and credit and rate of at least D, so
+-- both differences fit. Assumes nothing.
 use mathlib.Core.Path.{refl}
 use borrow.Author.Needs.{needs}
 use Rattle.calls.specs.Rule.{served}

@@ -1,3 +1,4 @@
+-- `calls::slot::slot` meets its contract. 23, then 22, then the slot. Assumes nothing.
 use mathlib.Core.Path.{sym, _∙_}
 use borrow.Author.Tests.{not-true, not-false, lt-ltb, le-ltb}
 use borrow.Author.Needs.{needs}

@@ -1,3 +1,5 @@
+-- `arbiter::refusals::Cause::refusal` meets its contract. Number and place come from the two functions on the inner enum,
+-- and the origin from the case. Assumes nothing.
 use mathlib.Core.Path.{ap, sym}
 use borrow.Author.Needs.{needs}
 use Rattle.arbiter.specs.Refusals.{refusalOf}

@@ -1,3 +1,5 @@
+-- `arbiter::state::Arbiter::is_sound` meets its contract. The parts of the test one after the other; N is within its limit
+-- once the table has passed. Assumes nothing.
 use mathlib.Core.Path.{ap, sym, _∙_}
 use borrow.Author.Tests.{not-true, not-false, le-leb, lt-leb}
 use borrow.Author.Needs.{needs}
@@ -29,12 +31,12 @@ accounts-hold-requires c κs = fair maxPlaces _ (sym (c .before .before .before 
 
 returns-2 : tie.Need-returns-2
 unfolding sound accountsSound
-returns-2 c = 
+returns-2 c =
     let s = (c .before .before .before .before .before .before .before .before .before) .args .self in
     let n = s .table .count in
     rw (← c .before .before .before .before .before .before .check-table .ensures, c .before .before .before .before .enum-told2 .given .1, le-leb _ _ (c .before .before .if1 .left))
     (and-both-false (every backlogFits (take n (s .accounts))) (upTo n (creditsHold (s .table .requestors) (s .accounts))) (every accountClear (drop n (s .accounts)))
-      (sym (c .before .accounts-hold .ensures) ∙ not-true _ (c .if2 .taken)))
+    (sym (c .before .accounts-hold .ensures) ∙ not-true _ (c .if2 .taken)))
 
 other-accounts-are-clear-requires : tie.Need-other-accounts-are-clear-requires
 other-accounts-are-clear-requires c κs = fair maxPlaces _ (sym (c .before .before .before .before .before .before .check-table .ensures) ∙ ap verdictOf (c .before .before .before .before .enum-told2 .given .1)) .count-most
@@ -45,13 +47,13 @@ returns-3 c = rw (← c .before .before .check-table .ensures, c .enum-told .giv
 
 returns-4 : tie.Need-returns-4
 unfolding sound accountsSound
-returns-4 c = 
+returns-4 c =
     let s = (c .before .before .before .before .before .before .before .before .before .before) .args .self in
     let n = s .table .count in
     c .other-accounts-are-clear .ensures
     ∙ rw (← c .before .before .before .before .before .before .before .check-table .ensures, c .before .before .before .before .before .enum-told2 .given .1, le-leb _ _ (c .before .before .before .if1 .left))
-      (and-both-true (every backlogFits (take n (s .accounts))) (upTo n (creditsHold (s .table .requestors) (s .accounts))) (every accountClear (drop n (s .accounts)))
-        (sym (c .before .before .accounts-hold .ensures) ∙ not-false _ (c .before .if2 .left)))
+    (and-both-true (every backlogFits (take n (s .accounts))) (upTo n (creditsHold (s .table .requestors) (s .accounts))) (every accountClear (drop n (s .accounts)))
+    (sym (c .before .before .accounts-hold .ensures) ∙ not-false _ (c .before .if2 .left)))
 
 pub is-sound-spec : {M : Type 1} → statement M
 is-sound-spec =

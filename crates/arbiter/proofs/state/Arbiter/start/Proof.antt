@@ -1,3 +1,5 @@
+-- `arbiter::state::Arbiter::start` meets its contract. Admission, then 12; an accepted start opens every account. Assumes
+-- nothing.
 use borrow.Author.Tests.{le-leb, lt-leb}
 use borrow.Author.Needs.{needs}
 use Rattle.arbiter.specs.Refusals.{gate, then}
