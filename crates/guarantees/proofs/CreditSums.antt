@@ -1,16 +1,11 @@
 -- Proves CreditSums: after any calls from an accepted start the credit sums hold and nothing is turned down by 23; and n ≤ R.
 -- Assumes nothing.
-use mathlib.Core.Path.{refl, ap, sym, _∙_}
-use Prim.Native.Nat.{ℕ, suc, _≤_}
+use mathlib.Core.Path.{ap, sym, _∙_}
+use Prim.Native.Nat.{ℕ, suc}
 use native.Mathlib.Omega.{arith}
-use lib.ListN.{take}
-use Rattle.lists.specs.Sums.{total}
-use Rattle.lists.proofs.Sums.{total-take-suc}
 use Rattle.arbiter.specs.declared.state.Arbiter.{Arbiter}
-use Rattle.arbiter.specs.Table.{rate, noRequestor, places}
-use Rattle.arbiter.specs.State.{requestorAt}
-use Rattle.arbiter.proofs.Checks.{fair}
-use Rattle.arbiter.proofs.Sound.{Sound, rates-most, row-at, sound-shut}
+use Rattle.arbiter.proofs.Above.{above}
+use Rattle.arbiter.proofs.Sound.{Sound, sound-shut}
 use Rattle.guarantees.specs.CreditSums.{Sustained, Credit-sums, Rate-left}
 use Rattle.guarantees.proofs.Step.{ruled-never-23}
 use Rattle.guarantees.proofs.Sound.{call-ruled}
@@ -29,8 +24,5 @@ credit-sums limit t first a calls = rw (entered-ruled limit t first a calls) (su
 
 pub rate-left : Rate-left
 rate-left limit t rows passes p h =
-    let f = fair limit t passes in
-    let least : 1 ≤ requestorAt p (places t) .rate = row-at limit t rows f p (omega arith) .rate-least in
-    let upTo : total rate (take (suc p) (places t)) ≤ t .denominator = rates-most limit t f (suc p) in
-    let more = total-take-suc rate noRequestor refl p (places t) in
-    (omega arith, omega arith)
+    let f = above limit t p rows passes (omega arith) in
+    rw (f .same-row, f .same-rates) (omega (arith, f .rates), omega (arith, f .rates, f .own-rate))

@@ -13,9 +13,10 @@ use Rattle.arbiter.specs.Table.{rate, burst}
 use Rattle.arbiter.specs.State.{credit, backlog, requestorAt, accountAt}
 use Rattle.calls.specs.declared.slot.Grant.the-variants.{Nobody}
 use Rattle.calls.specs.Rule.{first, served, after, slotted}
+use Rattle.calls.proofs.Accounts.{passed-most, passed-within}
 use Rattle.guarantees.specs.Counts.{toFirst}
 use Rattle.guarantees.proofs.Grants.{to-first-zero, to-first-one}
-use Rattle.guarantees.proofs.Head.{by-head, slotted-no-place, slotted-no-account, first-no-place, first-no-account, passed-most, passed-within}
+use Rattle.guarantees.proofs.Head.{by-head, slotted-no-place, slotted-no-account, first-no-place, first-no-account}
 
 -- a place that waits has a burst for one transfer
 abbrev pub Roomy : ℕ → List Requestor → List Account → Type 0

@@ -4,31 +4,17 @@ use mathlib.Core.Bool.{true, false}
 use mathlib.Core.List.{List, [], _∷_}
 use Prim.Native.Nat.{ℕ, suc, _+_, _≤_, _<_}
 use native.Mathlib.Omega.{arith}
-use borrow.Author.Tests.{ltb-true, leb-true, leb-false, lt-ltb, ne-eqb}
-use lib.Dec.{ltb}
+use borrow.Author.Tests.{lt-ltb, ne-eqb}
 use Rattle.lists.specs.Choices.{cases}
-use Rattle.lists.proofs.Tests.{true-false}
 use Rattle.arbiter.specs.declared.table.Requestor.{Requestor}
 use Rattle.arbiter.specs.declared.state.Account.{Account}
 use Rattle.arbiter.specs.State.{backlog}
 use Rattle.calls.specs.declared.slot.Grant.{Grant}
 use Rattle.calls.specs.declared.slot.Grant.the-variants.{Nobody, Place}
+use Rattle.calls.proofs.Accounts.{eligible-true, eligible-false}
 use Rattle.calls.specs.Rule.{eligible, later, first, served, passed, after, slotted}
 use Rattle.guarantees.specs.Counts.{toPlace, toFirst}
 use Rattle.guarantees.proofs.Grants.{to-first-later, to-place-later-zero, to-place-later}
-
-module _ (d : ℕ) (r : Requestor) (a : Account) where
-  eligible-waits : eligible d r a ≡ true → 0 < backlog a
-  unfolding eligible
-  eligible-waits e = cases (ltb 0 (backlog a)) (λ h. ltb-true 0 (backlog a) h) (λ h. true-false (cc))
-
-  eligible-enough : eligible d r a ≡ true → d ≤ a .credit + r .rate
-  unfolding eligible
-  eligible-enough e = cases (ltb 0 (backlog a)) (λ h. let f = rw h at e in omega (arith, leb-true)) (λ h. true-false (cc))
-
-  not-eligible-short : eligible d r a ≡ false → 0 < backlog a → a .credit + r .rate < d
-  unfolding eligible
-  not-eligible-short e h = let f = rw (lt-ltb 0 (backlog a) h) at e in omega (arith, leb-false)
 
 module _ (d : ℕ) (r : Requestor) (rs : List Requestor) (a : Account) (accounts : List Account) where
   pub record Granted : Type 0 where
@@ -46,7 +32,7 @@ module _ (d : ℕ) (r : Requestor) (rs : List Requestor) (a : Account) (accounts
     pub to-head-is : toPlace 0 (first d (r ∷ rs) (a ∷ accounts)) ≡ 0
     pub to-tail-is : (p : ℕ) → toPlace (suc p) (first d (r ∷ rs) (a ∷ accounts)) ≡ toPlace p (first d rs accounts)
 
-  after-later : (g : Grant) → after d (later g) (r ∷ rs) (a ∷ accounts) ≡ passed r a ∷ after d g rs accounts
+  pub after-later : (g : Grant) → after d (later g) (r ∷ rs) (a ∷ accounts) ≡ passed r a ∷ after d g rs accounts
   unfolding after later
   after-later Nobody = refl
   after-later (Place p) = refl
@@ -54,8 +40,8 @@ module _ (d : ℕ) (r : Requestor) (rs : List Requestor) (a : Account) (accounts
   pub head-granted : eligible d r a ≡ true → Granted
   unfolding slotted first after toFirst toPlace
   head-granted e = record {
-    waiting = eligible-waits d r a e;
-    enough = eligible-enough d r a e;
+    waiting = eligible-true r a d e .0;
+    enough = eligible-true r a d e .1;
     slotted-is = rw e;
     to-first-is = λ k. rw (e, lt-ltb 0 (suc k) (omega arith));
     to-head-is = rw e;
@@ -65,7 +51,7 @@ module _ (d : ℕ) (r : Requestor) (rs : List Requestor) (a : Account) (accounts
   pub head-passed : eligible d r a ≡ false → Passed
   unfolding slotted first
   head-passed e = record {
-    short = not-eligible-short d r a e;
+    short = eligible-false r a d e;
     slotted-is = rw e (after-later (first d rs accounts));
     to-first-is = λ k. rw e (to-first-later k (first d rs accounts));
     to-head-is = rw e (to-place-later-zero (first d rs accounts));
@@ -91,20 +77,3 @@ first-no-place d accounts = refl
 pub first-no-account : (d : ℕ) (r : Requestor) (rs : List Requestor) → first d (r ∷ rs) [] ≡ Nobody
 unfolding first
 first-no-account d r rs = refl
-
--- the credit of a place that is passed over
-module _ (r : Requestor) (a : Account) where
-  pub passed-waiting : 0 < backlog a → passed r a .credit ≡ a .credit + r .rate
-  unfolding passed
-  passed-waiting h = rw (lt-ltb 0 (backlog a) h) (omega arith)
-
-  pub passed-most : passed r a .credit ≤ a .credit + r .rate
-  unfolding passed
-  passed-most = cases (ltb 0 (backlog a)) (λ e. rw e (omega arith)) (λ e. rw e (omega arith))
-
-  -- not waiting, it is capped; waiting, it is short of D, which is at most b
-  pub passed-within : (d : ℕ) → (0 < backlog a → d ≤ r .burst) → (0 < backlog a → a .credit + r .rate < d) → passed r a .credit ≤ r .burst
-  unfolding passed
-  passed-within d roomy short = cases (ltb 0 (backlog a))
-      (λ e. rw e (omega (arith, roomy (ltb-true 0 (backlog a) e), short (ltb-true 0 (backlog a) e))))
-      (λ e. rw e (omega arith))

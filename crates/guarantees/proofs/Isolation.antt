@@ -26,6 +26,7 @@ use Rattle.calls.specs.Rule.{eligible, later, first, served, passed, after}
 use Rattle.calls.specs.Calls.{Call, post, slot, grantOf, advanced, filled, slotAnswer, done, ruleVerdict, outcome, ruled, called}
 use Rattle.guarantees.specs.Counts.{opened}
 use Rattle.guarantees.specs.Isolation.{Isolation, concerns, concerning, view, Shown, shows, shown}
+use Rattle.guarantees.proofs.Head.{after-later}
 use Rattle.guarantees.proofs.Step.{by-kind}
 use Rattle.guarantees.proofs.Sound.{sound-next, call-ruled}
 use Rattle.guarantees.proofs.Start.{opened-sound}
@@ -76,12 +77,6 @@ module _ (d : ℕ) where
   unfolding after
   after-of-none g [] = refl
   after-of-none g (r ∷ rs) = refl
-
-  after-later : (g : Grant) (r : Requestor) (rs : List Requestor) (a : Account) (accounts : List Account)
-      → after d (later g) (r ∷ rs) (a ∷ accounts) ≡ passed r a ∷ after d g rs accounts
-  unfolding after later
-  after-later Nobody r rs a accounts = refl
-  after-later (Place p) r rs a accounts = refl
 
   take-after : (m : ℕ) (g : Grant) (rs : List Requestor) (accounts : List Account)
       → take m (after d g rs accounts) ≡ after d (seen m g) rs (take m accounts)

@@ -1,5 +1,5 @@
 -- What one slot does to a place that waits: one above it is granted, or it is, or it is short of credit. Assumes nothing.
-use mathlib.Core.Path.{_≡_, _∙_}
+use mathlib.Core.Path.{ap, _≡_, _∙_}
 use mathlib.Core.List.{List, [], _∷_}
 use Prim.Native.Nat.{ℕ, zero, suc, _+_, _<_}
 use native.Mathlib.Nat.{not-suc-le-zero}
@@ -10,9 +10,10 @@ use Rattle.arbiter.specs.declared.state.Account.{Account}
 use Rattle.arbiter.specs.State.{credit, backlog, requestorAt, accountAt}
 use Rattle.calls.specs.declared.slot.Grant.the-variants.{Nobody}
 use Rattle.calls.specs.Rule.{first, served, after, slotted}
+use Rattle.calls.proofs.Accounts.{passed-waiting}
 use Rattle.guarantees.specs.Counts.{toPlace, toFirst}
 use Rattle.guarantees.proofs.Grants.{to-first-zero}
-use Rattle.guarantees.proofs.Head.{Passed, by-head, passed-waiting}
+use Rattle.guarantees.proofs.Head.{Passed, by-head}
 
 pub data Turn (d p : ℕ) (rs : List Requestor) (accounts : List Account) : Type 0 where
   above : toFirst p (first d rs accounts) ≡ 1 → toPlace p (first d rs accounts) ≡ 0
@@ -28,7 +29,7 @@ after-idle-credit : (d p : ℕ) (rs : List Requestor) (accounts : List Account) 
 unfolding after
 after-idle-credit d p [] accounts h waits = absurd (not-suc-le-zero h)
 after-idle-credit d p (r ∷ rs) [] h waits = absurd (not-suc-le-zero waits)
-after-idle-credit d zero (r ∷ rs) (a ∷ accounts) h waits = passed-waiting r a waits
+after-idle-credit d zero (r ∷ rs) (a ∷ accounts) h waits = ap credit (passed-waiting r a waits)
 after-idle-credit d (suc p) (r ∷ rs) (a ∷ accounts) h waits = after-idle-credit d p rs accounts (omega arith) waits
 
 pub turn : (d p : ℕ) (rs : List Requestor) (accounts : List Account) → p < length rs → 0 < backlog (accountAt p accounts) → Turn d p rs accounts
@@ -37,7 +38,7 @@ turn d p [] accounts h waits = absurd (not-suc-le-zero h)
 turn d p (r ∷ rs) [] h waits = absurd (not-suc-le-zero waits)
 turn d zero (r ∷ rs) (a ∷ accounts) h waits = by-head d r rs a accounts
     (λ y. own (to-first-zero (first d (r ∷ rs) (a ∷ accounts))) (y .to-head-is) (rw (y .slotted-is) (omega (arith, y .enough))))
-    (λ n. short (to-first-zero (first d (r ∷ rs) (a ∷ accounts))) (n .to-head-is) (n .short waits) (rw (n .slotted-is) (passed-waiting r a waits)))
+    (λ n. short (to-first-zero (first d (r ∷ rs) (a ∷ accounts))) (n .to-head-is) (n .short waits) (rw (n .slotted-is) (ap credit (passed-waiting r a waits))))
 turn d (suc p) (r ∷ rs) (a ∷ accounts) h waits = by-head d r rs a accounts
     (λ y. above (y .to-first-is p) (y .to-tail-is p) (rw (y .slotted-is) (after-idle-credit d p rs accounts (omega arith) waits)))
     (λ n. further n (turn d p rs accounts (omega arith) waits))

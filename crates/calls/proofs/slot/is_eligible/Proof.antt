@@ -1,4 +1,5 @@
 -- `calls::slot::is_eligible` meets its contract. Nothing waits, or the test of credit and rate. Assumes nothing.
+use mathlib.Core.Path.{sym}
 use borrow.Author.Needs.{needs}
 use Rattle.calls.proofs.Accounts.{eligible-idle, eligible-waiting}
 use Rattle.calls.proofs.slot.is_eligible.Statement.{statement}
@@ -8,10 +9,10 @@ add-raised : tie.Need-add-raised
 add-raised c = search needs
 
 returns : tie.Need-returns
-returns c = let a = c .before .before .before .before .args in eligible-waiting (a .r) (a .a) (a .d) (c .if1 .taken)
+returns c = let a = c .before .before .before .before .args in sym (eligible-waiting (a .r) (a .a) (a .d) (c .if1 .taken))
 
 returns-2 : tie.Need-returns-2
-returns-2 c = let a = c .before .before .before .before .args in eligible-idle (a .r) (a .a) (a .d) (c .if1 .left)
+returns-2 c = let a = c .before .before .before .before .args in sym (eligible-idle (a .r) (a .a) (a .d) (c .if1 .left))
 
 pub is-eligible-spec : {M : Type 1} → statement M
 is-eligible-spec = tie.close (tie.spec add-raised returns returns-2)
