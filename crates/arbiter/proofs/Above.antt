@@ -10,7 +10,7 @@ use Rattle.lists.proofs.Sums.{total-take-drop, total-take-suc}
 use Rattle.arbiter.specs.declared.table.Table.{Table}
 use Rattle.arbiter.specs.Limits.{maxDenominator}
 use Rattle.arbiter.specs.Refusals.{faultless}
-use Rattle.arbiter.specs.Table.{rate, burst, noRequestor, places, tableVerdict}
+use Rattle.arbiter.specs.Table.{rate, burst, noRequestor, requestorsOf, tableVerdict}
 use Rattle.arbiter.specs.Figures.{burstsAbove, ratesAbove}
 use Rattle.arbiter.proofs.Checks.{fair}
 
@@ -21,23 +21,23 @@ pub record Above (limit : ℕ) (t : Table) (p : ℕ) : Type 0 where
   pub own-rate : 1 ≤ getD (t .requestors) p noRequestor .rate
   pub rates : ratesAbove p (t .requestors) + getD (t .requestors) p noRequestor .rate ≤ t .denominator
   -- the table's own rows and the rows of places 0 to N−1 are the same up to here
-  pub same-rates : ratesAbove p (places t) ≡ ratesAbove p (t .requestors)
-  pub same-bursts : burstsAbove p (places t) ≡ burstsAbove p (t .requestors)
-  pub same-row : getD (places t) p noRequestor ≡ getD (t .requestors) p noRequestor
+  pub same-rates : ratesAbove p (requestorsOf t) ≡ ratesAbove p (t .requestors)
+  pub same-bursts : burstsAbove p (requestorsOf t) ≡ burstsAbove p (t .requestors)
+  pub same-row : getD (requestorsOf t) p noRequestor ≡ getD (t .requestors) p noRequestor
 
 pub above : (limit : ℕ) (t : Table) (p : ℕ) → length (t .requestors) ≡ limit → tableVerdict limit t ≡ faultless → p < t .count → Above limit t p
 above limit t p long ok h =
     let f = fair limit t ok in
-    let inside : p < length (places t) = simp length-take (omega (arith, f .count-most)) in
+    let inside : p < length (requestorsOf t) = simp length-take (omega (arith, f .count-most)) in
     let row = getD-take (t .count) (t .requestors) p noRequestor h in
     let cut = take-take p (t .count) (t .requestors) (omega arith) in
     let least : 1 ≤ getD (t .requestors) p noRequestor .rate = rw row at (f .row p inside .rate-least) in
-    let sum = rw (cut, row) at (total-take-suc rate noRequestor refl p (places t)) in
+    let sum = rw (cut, row) at (total-take-suc rate noRequestor refl p (requestorsOf t)) in
     record {
       place = omega (arith, f .count-most);
       denominator-most = f .denominator-most;
       own-rate = least;
-      rates = omega (arith, sum, total-take-drop rate (suc p) (places t), f .rate-sum);
+      rates = omega (arith, sum, total-take-drop rate (suc p) (requestorsOf t), f .rate-sum);
       same-rates = ap (total rate) cut;
       same-bursts = ap (total burst) cut;
       same-row = row;

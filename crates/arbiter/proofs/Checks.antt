@@ -6,7 +6,7 @@ use Prim.Native.Nat.{ℕ, zero, suc, _+_, _≤_, _<_}
 use native.Mathlib.Nat.{not-suc-le-zero, zero-add, add-zero, add-suc, suc-add}
 use native.Mathlib.Omega.{arith}
 use borrow.Author.Tests.{leb-true}
-use lib.ListN.{length, getD, drop}
+use lib.ListN.{length, drop}
 use Rattle.lists.specs.Sums.{total, every}
 use Rattle.lists.proofs.Tests.{in-range-true}
 use Rattle.arbiter.specs.declared.refusals.Refusal.{Refusal}
@@ -14,7 +14,7 @@ use Rattle.arbiter.specs.declared.table.Requestor.{Requestor}
 use Rattle.arbiter.specs.declared.table.Table.{Table}
 use Rattle.arbiter.specs.Limits.{maxDenominator, maxBurst, maxNeed, maxWithin}
 use Rattle.arbiter.specs.Refusals.{Verdict, faultless, fault, gate, then}
-use Rattle.arbiter.specs.Table.{rate, noRequestor, requestorClear, places, rowVerdict, eachPlace, tableVerdict}
+use Rattle.arbiter.specs.Table.{rate, requestorClear, requestorAt, requestorsOf, rowVerdict, eachPlace, tailVerdict, rateSumVerdict, tableVerdict}
 use Rattle.arbiter.specs.Figures.{finish, needVerdict, admissionVerdict}
 
 pub gate-open : (r : Refusal) (test : Bool) (rest : Verdict) → gate r test rest ≡ faultless → (test ≡ true) × (rest ≡ faultless)
@@ -31,15 +31,9 @@ pub gate-passed : (r : Refusal) (test : Bool) (rest : Verdict) → test ≡ true
 unfolding gate
 gate-passed r test rest e = rw e
 
--- a gate in front of checks is a check before them
-pub gate-then : (r : Refusal) (test : Bool) (rest : Verdict) → then (gate r test faultless) rest ≡ gate r test rest
-unfolding gate then
-gate-then r true rest = refl
-gate-then r false rest = refl
-
 -- a check that passes place by place passes at each place
 pub each-place-at : (check : ℕ → Requestor → Verdict) (p : ℕ) (rs : List Requestor) → eachPlace check p rs ≡ faultless
-    → (i : ℕ) → i < length rs → check (p + i) (getD rs i noRequestor) ≡ faultless
+    → (i : ℕ) → i < length rs → check (p + i) (requestorAt i rs) ≡ faultless
 unfolding eachPlace
 each-place-at check p [] e i h = absurd (not-suc-le-zero h)
 each-place-at check p (r ∷ rs) e zero h = rw add-zero (then-open (check p r) (eachPlace check (suc p) rs) e .0)
@@ -85,15 +79,15 @@ pub record Fair (limit : ℕ) (t : Table) : Type 0 where
   pub count-least : 1 ≤ t .count
   pub count-most : t .count ≤ limit
   pub clear : every requestorClear (drop (t .count) (t .requestors)) ≡ true
-  pub row : (p : ℕ) → p < length (places t) → Row (t .denominator) (getD (places t) p noRequestor)
-  pub rate-sum : total rate (places t) ≤ t .denominator
+  pub row : (p : ℕ) → p < length (requestorsOf t) → Row (t .denominator) (requestorAt p (requestorsOf t))
+  pub rate-sum : total rate (requestorsOf t) ≤ t .denominator
 
 pub fair : (limit : ℕ) (t : Table) → tableVerdict limit t ≡ faultless → Fair limit t
-unfolding tableVerdict
+unfolding tableVerdict tailVerdict rateSumVerdict
 fair limit t e =
     let a = gate-open _ _ _ e in
     let b = gate-open _ _ _ (a .1) in
-    let c = gate-open _ _ _ (b .1) in
+    let c = then-open _ _ (b .1) in
     let f = then-open _ _ (c .1) in
     let g = gate-open _ _ _ (f .1) in
     let d = in-range-true _ _ _ (a .0) in
@@ -103,15 +97,15 @@ fair limit t e =
       denominator-most = d .1;
       count-least = n .0;
       count-most = n .1;
-      clear = c .0;
-      row = λ p h. row-open _ (0 + p) _ (each-place-at (rowVerdict (t .denominator)) 0 (places t) (f .0) p h);
+      clear = gate-open _ _ _ (c .0) .0;
+      row = λ p h. row-open _ (0 + p) _ (each-place-at (rowVerdict (t .denominator)) 0 (requestorsOf t) (f .0) p h);
       rate-sum = leb-true _ _ (g .0);
     }
 
 -- a table that passes admission: checks 1 to 6, and each need holds
 pub record Admitted (limit : ℕ) (t : Table) : Type 0 where
   pub passes : tableVerdict limit t ≡ faultless
-  pub need : (p : ℕ) → p < length (places t) → finish (t .denominator) (places t) p (getD (places t) p noRequestor .need .0) ≤ getD (places t) p noRequestor .within .0
+  pub need : (p : ℕ) → p < length (requestorsOf t) → finish (t .denominator) (requestorsOf t) p (requestorAt p (requestorsOf t) .need .0) ≤ requestorAt p (requestorsOf t) .within .0
 
 pub admitted : (limit : ℕ) (t : Table) → admissionVerdict limit t ≡ faultless → Admitted limit t
 unfolding admissionVerdict needVerdict
@@ -119,5 +113,5 @@ admitted limit t e =
     let a = then-open _ _ e in
     record {
       passes = a .0;
-      need = λ p h. leb-true _ _ (gate-open _ _ _ (rw (zero-add p) at (each-place-at (needVerdict (t .denominator) (places t)) 0 (places t) (a .1) p h)) .0);
+      need = λ p h. leb-true _ _ (gate-open _ _ _ (rw (zero-add p) at (each-place-at (needVerdict (t .denominator) (requestorsOf t)) 0 (requestorsOf t) (a .1) p h)) .0);
     }

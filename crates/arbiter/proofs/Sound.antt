@@ -20,8 +20,8 @@ use Rattle.arbiter.specs.declared.state.Account.{Account}
 use Rattle.arbiter.specs.declared.state.Arbiter.{Arbiter}
 use Rattle.arbiter.specs.Limits.{maxBurst, maxBacklog, maxSlot}
 use Rattle.arbiter.specs.Refusals.{Verdict, faultless, fault}
-use Rattle.arbiter.specs.Table.{rate, burst, noRequestor, requestorClear, places, tableVerdict}
-use Rattle.arbiter.specs.State.{credit, backlog, noAccount, accountClear, backlogFits, requestorAt, accountAt, creditsHold, isFaultless, accountsSound, sound}
+use Rattle.arbiter.specs.Table.{rate, burst, noRequestor, requestorClear, requestorsOf, tableVerdict, requestorAt}
+use Rattle.arbiter.specs.State.{credit, backlog, noAccount, accountClear, backlogFits, accountAt, creditsHold, isFaultless, accountsHold, sound}
 use Rattle.arbiter.specs.Start.{fresh, opening, startVerdict}
 use Rattle.arbiter.proofs.Checks.{gate-open, then-open, Row, Fair, fair, Admitted, admitted}
 
@@ -79,43 +79,42 @@ module _ (n : ℕ) (rs : List Requestor) (accounts : List Account) where
   ]
 
 -- the rates of any first k places
-pub rates-most : (limit : ℕ) (t : Table) → Fair limit t → (k : ℕ) → total rate (take k (places t)) ≤ t .denominator
-rates-most limit t f k = omega (arith, total-take-drop rate k (places t), f .rate-sum)
+pub rates-most : (limit : ℕ) (t : Table) → Fair limit t → (k : ℕ) → total rate (take k (requestorsOf t)) ≤ t .denominator
+rates-most limit t f k = omega (arith, total-take-drop rate k (requestorsOf t), f .rate-sum)
 
 -- a fair table of `limit` rows has N places, each with a row within its limits
 module _ (limit : ℕ) (t : Table) (rows : length (t .requestors) ≡ limit) (f : Fair limit t) where
-  pub places-length : length (places t) ≡ t .count
+  pub places-length : length (requestorsOf t) ≡ t .count
   places-length = length-take-le (t .count) (t .requestors) (omega (arith, f .count-most))
 
-  pub row-at : (p : ℕ) → p < t .count → Row (t .denominator) (requestorAt p (places t))
+  pub row-at : (p : ℕ) → p < t .count → Row (t .denominator) (requestorAt p (requestorsOf t))
   row-at p h = f .row p (omega (arith, places-length))
 
 module _ (limit : ℕ) (s : Arbiter) where
   pub sound-open : length (s .table .requestors) ≡ limit → length (s .accounts) ≡ limit → sound limit s ≡ true → Sound limit s
-  unfolding sound accountsSound
+  unfolding sound accountsHold
   sound-open rows accounts e =
       let a = and-true (isFaultless (tableVerdict limit (s .table))) _ e in
       let b = and-true (leb (s .slot .0) maxSlot) _ (a .1) in
-      let c = and-true (every backlogFits (take (s .table .count) (s .accounts))) _ (b .1) in
-      let f = and-true (upTo (s .table .count) (creditsHold (s .table .requestors) (s .accounts))) _ (c .1) in
+      let c = and-true (accountsHold (s .table .count) (s .table .requestors) (s .accounts)) _ (b .1) in
+      let f = and-true (every backlogFits (take (s .table .count) (s .accounts))) _ (c .0) in
       let passes = is-faultless-true _ (a .0) in
       record {
         rows = rows;
         accounts = accounts;
         passes = passes;
         slot-most = leb-true _ _ (b .0);
-        backlog-most = backlogs-open _ _ (omega (arith, fair limit (s .table) passes .count-most)) (c .0);
-        sums = sums-past _ _ _ (f .1) (sums-open _ _ _ (f .0));
-        clear = f .1;
+        backlog-most = backlogs-open _ _ (omega (arith, fair limit (s .table) passes .count-most)) (f .0);
+        sums = sums-past _ _ _ (c .1) (sums-open _ _ _ (f .1));
+        clear = c .1;
       }
 
   pub sound-shut : Sound limit s → sound limit s ≡ true
-  unfolding sound accountsSound
+  unfolding sound accountsHold
   sound-shut v =
       true-and _ _ (ap isFaultless (v .passes))
       (true-and _ _ (le-leb _ _ (v .slot-most))
-      (true-and _ _ (backlogs-shut _ _ (v .backlog-most))
-      (true-and _ _ (sums-shut _ _ _ (v .sums)) (v .clear))))
+      (true-and _ _ (true-and _ _ (backlogs-shut _ _ (v .backlog-most)) (sums-shut _ _ _ (v .sums))) (v .clear)))
 
   module _ (v : Sound limit s) where
     pub sound-fair : Fair limit (s .table)
@@ -128,7 +127,7 @@ module _ (limit : ℕ) (s : Arbiter) where
       at-most-total credit noAccount refl p (s .accounts),
       credits-first (s .table .count) (s .accounts) (v .clear),
       v .sums (s .table .count),
-      total-most burst noRequestor maxBurst (places (s .table)) (λ q h. sound-fair .row q h .burst-most),
+      total-most burst noRequestor maxBurst (requestorsOf (s .table)) (λ q h. sound-fair .row q h .burst-most),
       places-length limit (s .table) (v .rows) sound-fair,
       mul-le-mul-right maxBurst (sound-fair .count-most),
     )

@@ -2,12 +2,12 @@
 use mathlib.Core.List.{List}
 use Prim.Native.Nat.{ℕ, _+_, _-_, _*_, _/_}
 use lib.Dec.{leb}
-use lib.ListN.{take, getD}
+use lib.ListN.{take}
 use Rattle.lists.specs.Sums.{total}
 use Rattle.arbiter.specs.declared.table.Requestor.{Requestor}
 use Rattle.arbiter.specs.declared.table.Table.{Table}
 use Rattle.arbiter.specs.Refusals.{Verdict, faultless, refusalAt, gate, then}
-use Rattle.arbiter.specs.Table.{rate, burst, noRequestor, places, eachPlace, tableVerdict}
+use Rattle.arbiter.specs.Table.{rate, burst, requestorAt, requestorsOf, eachPlace, tableVerdict}
 
 -- a / b, rounded up
 unfoldable pub roundedUp : ℕ → ℕ → ℕ
@@ -25,7 +25,7 @@ ratesAbove p rs = total rate (take p rs)
 abbrev pub rateLeft : ℕ → ℕ → List Requestor → ℕ
 rateLeft d p rs = d - ratesAbove p rs
 
--- the reported wait: B / R, rounded up
+-- the reported wait: B / R, which is Θ in source documents 000 and 003, rounded up
 abbrev pub waitOf : ℕ → ℕ → ℕ
 waitOf B R = roundedUp B R
 
@@ -35,7 +35,7 @@ finishOf d B R n j = waitOf B R + roundedUp (j * d) n
 
 -- the finish figure of place p for j transfers
 unfoldable pub finish : ℕ → List Requestor → ℕ → ℕ → ℕ
-finish d rs p j = finishOf d (burstsAbove p rs) (rateLeft d p rs) (getD rs p noRequestor .rate) j
+finish d rs p j = finishOf d (burstsAbove p rs) (rateLeft d p rs) (requestorAt p rs .rate) j
 
 -- check 7 of the requestor r at place p
 unfoldable pub needVerdict : ℕ → List Requestor → ℕ → Requestor → Verdict
@@ -45,4 +45,4 @@ needVerdict d rs p r = gate (refusalAt 7 p) (leb (finish d rs p (r .need .0)) (r
 unfoldable pub admissionVerdict : ℕ → Table → Verdict
 admissionVerdict limit t =
     then (tableVerdict limit t)
-    (eachPlace (needVerdict (t .denominator) (places t)) 0 (places t))
+    (eachPlace (needVerdict (t .denominator) (requestorsOf t)) 0 (requestorsOf t))

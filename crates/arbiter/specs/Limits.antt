@@ -5,7 +5,7 @@ use Prim.Native.Nat.{ℕ}
 abbrev pub maxDenominator : ℕ
 maxDenominator = 65535
 
--- N, the number of requestors. Definitions take it as a parameter; only the contracts put this number there.
+-- N, the number of requestors. Definitions take it as a parameter; only contracts and rows put this number there.
 abbrev pub maxPlaces : ℕ
 maxPlaces = 16
 
@@ -29,6 +29,6 @@ maxBacklog = 65535
 abbrev pub maxSlot : ℕ
 maxSlot = 4611686018427387904
 
--- the bytes of a log or of the program's input
+-- the bytes of a log or of the program's input: of refusal 13, and named here with the others
 abbrev pub maxInput : ℕ
 maxInput = 65536

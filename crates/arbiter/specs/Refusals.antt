@@ -99,5 +99,5 @@ then (fault r) rest = fault r
 
 -- what a call comes to by the verdict on it
 abbrev pub resolve : {X : Type 0} → Verdict → X → (Refusal → X) → X
-resolve faultless accepted refused = accepted
-resolve (fault r) accepted refused = refused r
+resolve faultless carried-out turned-down = carried-out
+resolve (fault r) carried-out turned-down = turned-down r

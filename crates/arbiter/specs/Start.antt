@@ -11,7 +11,7 @@ use Rattle.arbiter.specs.declared.state.Account.{Account}
 use Rattle.arbiter.specs.declared.state.Arbiter.{Arbiter}
 use Rattle.arbiter.specs.declared.start.StartAnswer.{StartAnswer}
 use Rattle.arbiter.specs.declared.start.StartAnswer.the-variants as code
-use Rattle.arbiter.specs.declared.start.Started as code-result
+use Rattle.arbiter.specs.declared.start.StartResult as code-result
 use Rattle.arbiter.specs.Limits.{maxSlot}
 use Rattle.arbiter.specs.Refusals.{Verdict, faultless, refusal, refusalOf, gate, then, resolve}
 use Rattle.arbiter.specs.Answers.{Answer, accepted, refused}
@@ -24,8 +24,8 @@ abbrev pub answerOf : StartAnswer → Answer
 answerOf code.Started = accepted
 answerOf (code.Refused c) = refused (refusalOf c)
 
-abbrev pub resultOf : code-result.Started → Result Arbiter Answer
-resultOf r = record { state = r .state; answer = answerOf (r .answer) }
+abbrev pub startResultOf : code-result.StartResult → Result Arbiter Answer
+startResultOf r = record { state = r .state; answer = answerOf (r .answer) }
 
 -- credit b, backlog 0
 abbrev pub fresh : Requestor → Account

@@ -10,7 +10,7 @@ use Rattle.arbiter.specs.declared.state.Account.{Account}
 use Rattle.arbiter.specs.declared.state.Arbiter.{Arbiter}
 use Rattle.arbiter.specs.Limits.{maxBacklog, maxSlot}
 use Rattle.arbiter.specs.Refusals.{Verdict, resolve}
-use Rattle.arbiter.specs.Table.{burst, noRequestor, tableVerdict}
+use Rattle.arbiter.specs.Table.{burst, tableVerdict}
 
 -- the credit c and the backlog q of an account
 abbrev pub credit : Account → ℕ
@@ -29,10 +29,7 @@ accountClear a = eqb (a .credit) 0 && eqb (a .backlog .0) 0
 abbrev pub backlogFits : Account → Bool
 backlogFits a = leb (backlog a) maxBacklog
 
--- the requestor and the account of place p
-abbrev pub requestorAt : ℕ → List Requestor → Requestor
-requestorAt p rs = getD rs p noRequestor
-
+-- the account of place p
 abbrev pub accountAt : ℕ → List Account → Account
 accountAt p accounts = getD accounts p noAccount
 
@@ -43,14 +40,14 @@ creditsHold rs accounts k = leb (total credit (take k accounts)) (total burst (t
 abbrev pub isFaultless : Verdict → Bool
 isFaultless v = resolve v true (λ r. false)
 
--- what the accounts of N places must hold: backlogs within their limit, every credit sum, and 0 past place N−1
-unfoldable pub accountsSound : ℕ → List Requestor → List Account → Bool
-accountsSound n rs accounts =
-    every backlogFits (take n accounts)
-    && (upTo n (creditsHold rs accounts) && every accountClear (drop n accounts))
+-- what the accounts of the N places hold: every backlog within its limit, and every credit sum
+unfoldable pub accountsHold : ℕ → List Requestor → List Account → Bool
+accountsHold n rs accounts = every backlogFits (take n accounts) && upTo n (creditsHold rs accounts)
 
 -- the state breaks no rule; `limit` is the largest N
 unfoldable pub sound : ℕ → Arbiter → Bool
 sound limit s =
     isFaultless (tableVerdict limit (s .table))
-    && (leb (s .slot .0) maxSlot && accountsSound (s .table .count) (s .table .requestors) (s .accounts))
+    && (leb (s .slot .0) maxSlot
+    && (accountsHold (s .table .count) (s .table .requestors) (s .accounts)
+    && every accountClear (drop (s .table .count) (s .accounts))))

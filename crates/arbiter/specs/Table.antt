@@ -3,7 +3,7 @@ use mathlib.Core.Bool.{Bool, _&&_}
 use mathlib.Core.List.{List, [], _∷_}
 use Prim.Native.Nat.{ℕ, suc}
 use lib.Dec.{leb, eqb}
-use lib.ListN.{take, drop}
+use lib.ListN.{take, drop, getD}
 use Rattle.lists.specs.Choices.{inRange}
 use Rattle.lists.specs.Sums.{total, every}
 use Rattle.arbiter.specs.declared.table.Requestor.{Requestor}
@@ -25,9 +25,13 @@ noRequestor = record { rate = 0; burst = 0; need = record { 0 = 0 }; within = re
 abbrev pub requestorClear : Requestor → Bool
 requestorClear r = eqb (r .rate) 0 && (eqb (r .burst) 0 && (eqb (r .need .0) 0 && eqb (r .within .0) 0))
 
--- the rows of places 0 to N−1
-abbrev pub places : Table → List Requestor
-places t = take (t .count) (t .requestors)
+-- the requestor of place p in a list that begins at place 0
+abbrev pub requestorAt : ℕ → List Requestor → Requestor
+requestorAt p rs = getD rs p noRequestor
+
+-- the requestors of places 0 to N−1
+abbrev pub requestorsOf : Table → List Requestor
+requestorsOf t = take (t .count) (t .requestors)
 
 -- checks 3, 4 and 5 of the requestor at place p
 unfoldable pub rowVerdict : ℕ → ℕ → Requestor → Verdict
@@ -43,12 +47,19 @@ unfoldable pub eachPlace : (ℕ → Requestor → Verdict) → ℕ → List Requ
 eachPlace check p [] = faultless
 eachPlace check p (r ∷ rs) = then (check p r) (eachPlace check (suc p) rs)
 
+-- the part of check 2 that looks past place N−1
+unfoldable pub tailVerdict : Table → Verdict
+tailVerdict t = gate (refusal 2) (every requestorClear (drop (t .count) (t .requestors))) faultless
+
+-- check 6
+unfoldable pub rateSumVerdict : Table → Verdict
+rateSumVerdict t = gate (refusal 6) (leb (total rate (requestorsOf t)) (t .denominator)) faultless
+
 -- checks 1 to 6; `limit` is the largest N
 unfoldable pub tableVerdict : ℕ → Table → Verdict
 tableVerdict limit t =
     gate (refusal 1) (inRange 1 maxDenominator (t .denominator))
     (gate (refusal 2) (inRange 1 limit (t .count))
-    (gate (refusal 2) (every requestorClear (drop (t .count) (t .requestors)))
-    (then (eachPlace (rowVerdict (t .denominator)) 0 (places t))
-    (gate (refusal 6) (leb (total rate (places t)) (t .denominator))
-    faultless))))
+    (then (tailVerdict t)
+    (then (eachPlace (rowVerdict (t .denominator)) 0 (requestorsOf t))
+    (rateSumVerdict t))))

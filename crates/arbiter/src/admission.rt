@@ -7,16 +7,15 @@ use crate::table::Table;
 use crate::table::check_table;
 ghost use mathlib.Core.Path.{_≡_};
 ghost use Prim.Native.Nat.{_<_};
-ghost use lib.ListN.{getD};
 ghost use Rattle.arbiter.specs.Limits.{maxPlaces};
 ghost use Rattle.arbiter.specs.Refusals.{verdictOf, faultless};
-ghost use Rattle.arbiter.specs.Table.{noRequestor, places, eachPlace, tableVerdict};
+ghost use Rattle.arbiter.specs.Table.{requestorAt, requestorsOf, eachPlace, tableVerdict};
 ghost use Rattle.arbiter.specs.Figures.{needVerdict, admissionVerdict};
 
 // Check 7 at place p.
 fn check_need(t: Table, p: usize) -> Verdict
     requires { ⌜ (tableVerdict maxPlaces t ≡ faultless) × (p < t .count) ⌝ }
-    ensures { λ v. ⌜ verdictOf v ≡ needVerdict (t .denominator) (places t) p (getD (t .requestors) p noRequestor) ⌝ }
+    ensures { λ v. ⌜ verdictOf v ≡ needVerdict (t .denominator) (requestorsOf t) p (requestorAt p (t .requestors)) ⌝ }
 {
     let r = t.requestors[p];
     let need = r.need;
@@ -31,7 +30,7 @@ fn check_need(t: Table, p: usize) -> Verdict
 // Check 7, place by place.
 fn check_needs(t: Table) -> Verdict
     requires { ⌜ tableVerdict maxPlaces t ≡ faultless ⌝ }
-    ensures { λ v. ⌜ verdictOf v ≡ eachPlace (needVerdict (t .denominator) (places t)) 0 (places t) ⌝ }
+    ensures { λ v. ⌜ verdictOf v ≡ eachPlace (needVerdict (t .denominator) (requestorsOf t)) 0 (requestorsOf t) ⌝ }
 {
     let n = t.count;
     let mut p: usize = 0;

@@ -8,7 +8,7 @@ ghost use mathlib.Core.Path.{_≡_};
 ghost use Prim.Native.Nat.{ℕ, _+_, _≤_, _<_, _^_};
 ghost use Rattle.arbiter.specs.Limits.{maxPlaces};
 ghost use Rattle.arbiter.specs.Refusals.{faultless};
-ghost use Rattle.arbiter.specs.Table.{places, tableVerdict};
+ghost use Rattle.arbiter.specs.Table.{requestorsOf, tableVerdict};
 ghost use Rattle.arbiter.specs.Figures.{roundedUp, burstsAbove, rateLeft, waitOf, finish};
 
 // a / b, rounded up.
@@ -23,7 +23,7 @@ fn rounded_up(a: u64, b: u64) -> u64
 // The reported wait of place p: B / R, rounded up.
 pub(crate) fn wait(t: Table, p: usize) -> Slots
     requires { ⌜ (tableVerdict maxPlaces t ≡ faultless) × (p < t .count) ⌝ }
-    ensures figure { λ r. ⌜ r .0 ≡ waitOf (burstsAbove p (places t)) (rateLeft (t .denominator) p (places t)) ⌝ }
+    ensures figure { λ r. ⌜ r .0 ≡ waitOf (burstsAbove p (requestorsOf t)) (rateLeft (t .denominator) p (requestorsOf t)) ⌝ }
     ensures small { λ r. ⌜ r .0 < 2 ^ 62 ⌝ }
 {
     let d = t.denominator;
@@ -34,7 +34,7 @@ pub(crate) fn wait(t: Table, p: usize) -> Slots
 // The finish figure of place p for j transfers: the wait, and j * D / n rounded up.
 pub(crate) fn finish(t: Table, p: usize, j: Transfers) -> Slots
     requires { ⌜ (tableVerdict maxPlaces t ≡ faultless) × (p < t .count) ⌝ }
-    ensures { λ r. ⌜ r .0 ≡ finish (t .denominator) (places t) p (j .0) ⌝ }
+    ensures { λ r. ⌜ r .0 ≡ finish (t .denominator) (requestorsOf t) p (j .0) ⌝ }
 {
     let d = t.denominator;
     let r = t.requestors[p];

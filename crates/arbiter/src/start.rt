@@ -11,19 +11,19 @@ ghost use mathlib.Core.List.{map};
 ghost use Rattle.arbiter.specs.Limits.{maxPlaces};
 ghost use Rattle.arbiter.specs.Refusals.{refusalOf};
 ghost use Rattle.arbiter.specs.Answers.{refused};
-ghost use Rattle.arbiter.specs.Start.{fresh, noState, resultOf};
+ghost use Rattle.arbiter.specs.Start.{fresh, noState, startResultOf};
 
 pub enum StartAnswer {
     Started,
     Refused(Cause),
 }
 
-pub struct Started {
+pub struct StartResult {
     pub state: Arbiter,
     pub answer: StartAnswer,
 }
 
-// Each credit is the burst and each backlog is 0; past place N-1 the burst is 0 too.
+// Each credit is the burst and each backlog is 0. In a table that passed check 2 the burst past place N-1 is 0 too.
 pub(crate) fn opening_accounts(t: Table) -> [Account; Arbiter::MAX_PLACES]
     ensures { λ r. ⌜ r ≡ map fresh (t .requestors) ⌝ }
 {
@@ -72,10 +72,10 @@ fn no_state() -> Arbiter
 }
 
 // A state whose every field is 0, and why.
-pub(crate) fn refuse(why: Cause) -> Started
-    ensures { λ r. ⌜ resultOf r ≡ record { state = noState maxPlaces; answer = refused (refusalOf why) } ⌝ }
+pub(crate) fn refuse(why: Cause) -> StartResult
+    ensures { λ r. ⌜ startResultOf r ≡ record { state = noState maxPlaces; answer = refused (refusalOf why) } ⌝ }
 {
-    Started {
+    StartResult {
         state: no_state(),
         answer: StartAnswer::Refused(why),
     }

@@ -4,7 +4,7 @@ use crate::refusals::Cause;
 use crate::refusals::InputRefusal;
 use crate::refusals::Verdict;
 use crate::start::StartAnswer;
-use crate::start::Started;
+use crate::start::StartResult;
 use crate::start::opening_accounts;
 use crate::start::refuse;
 use crate::table::Table;
@@ -12,13 +12,12 @@ use crate::table::check_table;
 use crate::units::Slots;
 use crate::units::Transfers;
 ghost use mathlib.Core.Path.{_≡_};
-ghost use mathlib.Core.Bool.{_&&_};
 ghost use Prim.Native.Nat.{_≤_};
-ghost use lib.ListN.{take, drop};
-ghost use Rattle.lists.specs.Sums.{every, upTo};
+ghost use lib.ListN.{drop};
+ghost use Rattle.lists.specs.Sums.{every};
 ghost use Rattle.arbiter.specs.Limits.{maxDenominator, maxPlaces, maxBurst, maxNeed, maxWithin, maxBacklog, maxSlot, maxInput};
-ghost use Rattle.arbiter.specs.State.{accountClear, backlogFits, creditsHold, sound};
-ghost use Rattle.arbiter.specs.Start.{start, resultOf};
+ghost use Rattle.arbiter.specs.State.{accountClear, accountsHold, sound};
+ghost use Rattle.arbiter.specs.Start.{start, startResultOf};
 
 // What a slot changes of one place: its credit c and its backlog q.
 pub struct Account {
@@ -63,7 +62,7 @@ fn other_accounts_are_clear(s: Arbiter) -> bool
 // Whether no backlog passes its limit and no credit sum passes the burst sum.
 fn accounts_hold(s: Arbiter) -> bool
     requires { ⌜ s .table .count ≤ maxPlaces ⌝ }
-    ensures { λ b. ⌜ b ≡ (every backlogFits (take (s .table .count) (s .accounts)) && upTo (s .table .count) (creditsHold (s .table .requestors) (s .accounts))) ⌝ }
+    ensures { λ b. ⌜ b ≡ accountsHold (s .table .count) (s .table .requestors) (s .accounts) ⌝ }
 {
     let t = s.table;
     let n = t.count;
@@ -138,8 +137,8 @@ impl Arbiter {
     }
 
     // The state of a table and a first slot number that pass every check; else one whose every field is 0.
-    pub fn start(t: Table, first: Slots) -> Started
-        ensures { λ r. ⌜ resultOf r ≡ start maxPlaces t (first .0) ⌝ }
+    pub fn start(t: Table, first: Slots) -> StartResult
+        ensures { λ r. ⌜ startResultOf r ≡ start maxPlaces t (first .0) ⌝ }
     {
         let v = admit(t);
         match v {
@@ -149,7 +148,7 @@ impl Arbiter {
                     return refuse(Cause::Input(InputRefusal::FirstSlot));
                 }
                 let accounts = opening_accounts(t);
-                Started {
+                StartResult {
                     state: Arbiter {
                         table: t,
                         slot: first,

@@ -5,7 +5,7 @@ ghost use Prim.Native.Nat.{ℕ, _*_, _≤_};
 ghost use Rattle.arbiter.specs.Limits.{maxPlaces};
 ghost use Rattle.arbiter.specs.Figures.{burstsAbove, ratesAbove};
 
-// B of document 01.
+// The sum of the bursts above p: B of document 01.
 pub(crate) fn bursts_above(t: Table, p: usize) -> u64
     requires { ⌜ p ≤ maxPlaces ⌝ }
     ensures sum { λ (r : ℕ). ⌜ r ≡ burstsAbove p (t .requestors) ⌝ }
@@ -20,7 +20,7 @@ pub(crate) fn bursts_above(t: Table, p: usize) -> u64
     }
 }
 
-// What D exceeds R by.
+// The sum of the rates above p; R of document 01 is D less this.
 pub(crate) fn rates_above(t: Table, p: usize) -> u64
     requires { ⌜ p ≤ maxPlaces ⌝ }
     ensures sum { λ (r : ℕ). ⌜ r ≡ ratesAbove p (t .requestors) ⌝ }

@@ -11,11 +11,10 @@ ghost use mathlib.Core.Path.{_≡_};
 ghost use Prim.Native.Nat.{_≤_};
 ghost use lib.ListN.{drop};
 ghost use Rattle.lists.specs.Choices.{inRange};
-ghost use lib.Dec.{leb};
-ghost use Rattle.lists.specs.Sums.{total, every};
+ghost use Rattle.lists.specs.Sums.{every};
 ghost use Rattle.arbiter.specs.Limits.{maxPlaces};
-ghost use Rattle.arbiter.specs.Refusals.{verdictOf, faultless, refusal, gate};
-ghost use Rattle.arbiter.specs.Table.{rate, requestorClear, places, rowVerdict, eachPlace, tableVerdict};
+ghost use Rattle.arbiter.specs.Refusals.{verdictOf};
+ghost use Rattle.arbiter.specs.Table.{requestorClear, tailVerdict, rateSumVerdict, requestorsOf, rowVerdict, eachPlace, tableVerdict};
 
 // One row of the table: the rate n, the burst b, and the need of j transfers within L slots.
 pub struct Requestor {
@@ -98,7 +97,7 @@ fn check_row(d: u32, p: usize, r: Requestor) -> Verdict
 // Checks 3, 4 and 5, place by place.
 fn check_rows(t: Table) -> Verdict
     requires { ⌜ t .count ≤ maxPlaces ⌝ }
-    ensures { λ v. ⌜ verdictOf v ≡ eachPlace (rowVerdict (t .denominator)) 0 (places t) ⌝ }
+    ensures { λ v. ⌜ verdictOf v ≡ eachPlace (rowVerdict (t .denominator)) 0 (requestorsOf t) ⌝ }
 {
     let d = t.denominator;
     let n = t.count;
@@ -124,7 +123,7 @@ fn check_rows(t: Table) -> Verdict
 // The part of check 2 that looks past place N-1.
 fn check_tail(t: Table) -> Verdict
     requires { ⌜ t .count ≤ maxPlaces ⌝ }
-    ensures { λ v. ⌜ verdictOf v ≡ gate (refusal 2) (every requestorClear (drop (t .count) (t .requestors))) faultless ⌝ }
+    ensures { λ v. ⌜ verdictOf v ≡ tailVerdict t ⌝ }
 {
     if rest_is_clear(t) {
         return Verdict::Faultless;
@@ -135,7 +134,7 @@ fn check_tail(t: Table) -> Verdict
 // Check 6.
 fn check_rate_sum(t: Table) -> Verdict
     requires { ⌜ t .count ≤ maxPlaces ⌝ }
-    ensures { λ v. ⌜ verdictOf v ≡ gate (refusal 6) (leb (total rate (places t)) (t .denominator)) faultless ⌝ }
+    ensures { λ v. ⌜ verdictOf v ≡ rateSumVerdict t ⌝ }
 {
     let d = t.denominator;
     let n = t.count;

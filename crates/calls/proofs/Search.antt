@@ -14,8 +14,8 @@ use Rattle.lists.specs.Choices.{cases}
 use Rattle.lists.proofs.Tests.{true-false}
 use Rattle.arbiter.specs.declared.table.Requestor.{Requestor}
 use Rattle.arbiter.specs.declared.state.Account.{Account}
-use Rattle.arbiter.specs.State.{noAccount, requestorAt, accountAt}
-use Rattle.arbiter.specs.Table.{noRequestor}
+use Rattle.arbiter.specs.State.{noAccount, accountAt}
+use Rattle.arbiter.specs.Table.{requestorAt, noRequestor}
 use Rattle.calls.specs.declared.slot.Grant.{Grant}
 use Rattle.calls.specs.declared.slot.Grant.the-variants.{Nobody, Place}
 use Rattle.calls.specs.Rule.{eligible, first, later}

@@ -9,16 +9,16 @@ use Rattle.arbiter.specs.declared.state.Arbiter.{Arbiter}
 use Rattle.arbiter.specs.Limits.{maxBacklog, maxSlot}
 use Rattle.arbiter.specs.Refusals.{Verdict, faultless, refusal, refusalOf, gate, resolve}
 use Rattle.arbiter.specs.Answers.{Answer, accepted, granted, idle, refused}
-use Rattle.arbiter.specs.Table.{places}
+use Rattle.arbiter.specs.Table.{requestorsOf}
 use Rattle.arbiter.specs.State.{backlog, accountAt, sound}
 use Rattle.calls.specs.declared.slot.Grant.{Grant}
 use Rattle.calls.specs.declared.slot.Grant.the-variants.{Nobody, Place}
 use Rattle.calls.specs.declared.post.PostAnswer.{PostAnswer}
 use Rattle.calls.specs.declared.post.PostAnswer.the-variants as post-answer
-use Rattle.calls.specs.declared.post.Posted.{Posted}
+use Rattle.calls.specs.declared.post.PostResult.{PostResult}
 use Rattle.calls.specs.declared.slot.SlotAnswer.{SlotAnswer}
 use Rattle.calls.specs.declared.slot.SlotAnswer.the-variants as slot-answer
-use Rattle.calls.specs.declared.slot.Slotted.{Slotted}
+use Rattle.calls.specs.declared.slot.SlotResult.{SlotResult}
 use Rattle.calls.specs.Rule.{first, after}
 
 pub data Call : Type 0 where
@@ -27,14 +27,14 @@ pub data Call : Type 0 where
 
 -- whom a slot grants
 unfoldable pub grantOf : Arbiter → Grant
-grantOf s = first (s .table .denominator) (places (s .table)) (s .accounts)
+grantOf s = first (s .table .denominator) (requestorsOf (s .table)) (s .accounts)
 
 -- the state after a slot that granted g: every account, and 5. "the slot number rises by 1"
 unfoldable pub advanced : Arbiter → Grant → Arbiter
 advanced s g = record {
   table = s .table;
   slot = record { 0 = s .slot .0 + 1 };
-  accounts = after (s .table .denominator) g (places (s .table)) (s .accounts);
+  accounts = after (s .table .denominator) g (requestorsOf (s .table)) (s .accounts);
 }
 
 -- "A post adds a count (0 allowed) to one place's q."
@@ -88,8 +88,8 @@ slotAnswerOf (slot-answer.Granted stamp p) = granted (stamp .0) p
 slotAnswerOf (slot-answer.Idle stamp) = idle (stamp .0)
 slotAnswerOf (slot-answer.Refused c) = refused (refusalOf c)
 
-abbrev pub postedOf : Posted → Result Arbiter Answer
-postedOf r = record { state = r .state; answer = postAnswerOf (r .answer) }
+abbrev pub postResultOf : PostResult → Result Arbiter Answer
+postResultOf r = record { state = r .state; answer = postAnswerOf (r .answer) }
 
-abbrev pub slottedOf : Slotted → Result Arbiter Answer
-slottedOf r = record { state = r .state; answer = slotAnswerOf (r .answer) }
+abbrev pub slotResultOf : SlotResult → Result Arbiter Answer
+slotResultOf r = record { state = r .state; answer = slotAnswerOf (r .answer) }

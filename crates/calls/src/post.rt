@@ -9,31 +9,31 @@ ghost use mathlib.Core.Path.{_≡_};
 ghost use Rattle.arbiter.specs.Limits.{maxPlaces};
 ghost use Rattle.arbiter.specs.Refusals.{refusalOf};
 ghost use Rattle.arbiter.specs.Answers.{refused};
-ghost use Rattle.calls.specs.Calls.{post, called, postedOf};
+ghost use Rattle.calls.specs.Calls.{post, called, postResultOf};
 
 pub enum PostAnswer {
     Accepted,
     Refused(Cause),
 }
 
-pub struct Posted {
+pub struct PostResult {
     pub state: Arbiter,
     pub answer: PostAnswer,
 }
 
 // The state handed in, and why.
-fn refuse(s: Arbiter, why: Cause) -> Posted
-    ensures { λ r. ⌜ postedOf r ≡ record { state = s; answer = refused (refusalOf why) } ⌝ }
+fn refuse(s: Arbiter, why: Cause) -> PostResult
+    ensures { λ r. ⌜ postResultOf r ≡ record { state = s; answer = refused (refusalOf why) } ⌝ }
 {
-    Posted {
+    PostResult {
         state: s,
         answer: PostAnswer::Refused(why),
     }
 }
 
 // Refused: 23, 11, 21.
-pub fn post(s: Arbiter, place: usize, count: Transfers) -> Posted
-    ensures { λ r. ⌜ postedOf r ≡ called maxPlaces s (post place (count .0)) ⌝ }
+pub fn post(s: Arbiter, place: usize, count: Transfers) -> PostResult
+    ensures { λ r. ⌜ postResultOf r ≡ called maxPlaces s (post place (count .0)) ⌝ }
 {
     if !s.is_sound() {
         return refuse(s, Cause::State(StateRefusal::Unsound));
@@ -54,7 +54,7 @@ pub fn post(s: Arbiter, place: usize, count: Transfers) -> Posted
         credit: a.credit,
         backlog: Transfers(q.0 + count.0),
     };
-    Posted {
+    PostResult {
         state: next,
         answer: PostAnswer::Accepted,
     }

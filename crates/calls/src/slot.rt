@@ -15,7 +15,7 @@ ghost use Rattle.arbiter.specs.Answers.{refused};
 ghost use Rattle.arbiter.specs.State.{sound};
 ghost use Rattle.calls.specs.Rule.{eligible, served, passed};
 ghost use Rattle.calls.specs.Places.{names, accountAfter};
-ghost use Rattle.calls.specs.Calls.{slot, grantOf, advanced, done, called, slottedOf};
+ghost use Rattle.calls.specs.Calls.{slot, grantOf, advanced, done, called, slotResultOf};
 
 // Whom a slot grants.
 pub enum Grant {
@@ -29,7 +29,7 @@ pub enum SlotAnswer {
     Refused(Cause),
 }
 
-pub struct Slotted {
+pub struct SlotResult {
     pub state: Arbiter,
     pub answer: SlotAnswer,
 }
@@ -139,19 +139,19 @@ fn advance(s: Arbiter, g: Grant) -> Arbiter
 }
 
 // A slot of a state that passed its checks.
-fn carry_out(s: Arbiter) -> Slotted
+fn carry_out(s: Arbiter) -> SlotResult
     requires { ⌜ (sound maxPlaces s ≡ true) × (s .slot .0 < maxSlot) ⌝ }
-    ensures { λ r. ⌜ slottedOf r ≡ done s slot ⌝ }
+    ensures { λ r. ⌜ slotResultOf r ≡ done s slot ⌝ }
 {
     let at = s.slot;
     let g = find(s);
     let next = advance(s, g);
     match g {
-        Grant::Nobody => Slotted {
+        Grant::Nobody => SlotResult {
             state: next,
             answer: SlotAnswer::Idle(at),
         },
-        Grant::Place(p) => Slotted {
+        Grant::Place(p) => SlotResult {
             state: next,
             answer: SlotAnswer::Granted(at, p),
         },
@@ -159,18 +159,18 @@ fn carry_out(s: Arbiter) -> Slotted
 }
 
 // The state handed in, and why.
-fn refuse(s: Arbiter, why: StateRefusal) -> Slotted
-    ensures { λ r. ⌜ slottedOf r ≡ record { state = s; answer = refused (refusalOf (Cause.State why)) } ⌝ }
+fn refuse(s: Arbiter, why: StateRefusal) -> SlotResult
+    ensures { λ r. ⌜ slotResultOf r ≡ record { state = s; answer = refused (refusalOf (Cause.State why)) } ⌝ }
 {
-    Slotted {
+    SlotResult {
         state: s,
         answer: SlotAnswer::Refused(Cause::State(why)),
     }
 }
 
 // Refused: 23, 22.
-pub fn slot(s: Arbiter) -> Slotted
-    ensures { λ r. ⌜ slottedOf r ≡ called maxPlaces s slot ⌝ }
+pub fn slot(s: Arbiter) -> SlotResult
+    ensures { λ r. ⌜ slotResultOf r ≡ called maxPlaces s slot ⌝ }
 {
     if !s.is_sound() {
         return refuse(s, StateRefusal::Unsound);

@@ -10,9 +10,9 @@ use Rattle.arbiter.specs.declared.state.Arbiter.{Arbiter}
 use Rattle.arbiter.specs.Limits.{maxPlaces}
 use Rattle.arbiter.specs.Refusals.{Verdict}
 use Rattle.arbiter.specs.Answers.{Answer}
-use Rattle.arbiter.specs.Table.{noRequestor, places}
+use Rattle.arbiter.specs.Table.{noRequestor, requestorsOf, requestorAt}
 use Rattle.arbiter.specs.Figures.{burstsAbove, rateLeft, waitOf, finish, admissionVerdict}
-use Rattle.arbiter.specs.State.{credit, backlog, requestorAt}
+use Rattle.arbiter.specs.State.{credit, backlog}
 use Rattle.arbiter.specs.Start.{start}
 use Rattle.calls.specs.Calls.{Call, called}
 use Rattle.guarantees.specs.Counts.{slotsIn, grantsTo}
@@ -63,13 +63,13 @@ reply (run t first calls) =
     heard (Runs.answers (called maxPlaces) s calls) (map credit (take (t .count) (Runs.end (called maxPlaces) s calls .accounts)))
 reply (call s c) = answered (called maxPlaces s c .answer)
 reply (figures t p j) =
-    let B = burstsAbove p (places t) in
-    let R = rateLeft (t .denominator) p (places t) in
-    figured B R (waitOf B R) (finish (t .denominator) (places t) p j)
+    let B = burstsAbove p (requestorsOf t) in
+    let R = rateLeft (t .denominator) p (requestorsOf t) in
+    figured B R (waitOf B R) (finish (t .denominator) (requestorsOf t) p j)
 reply (floor t before inside p) =
     let s = Runs.end (called maxPlaces) (start maxPlaces t 0 .state) before in
     let stretch = Runs.answers (called maxPlaces) s inside in
-    floorSides (t .denominator) (requestorAt p (places t) .rate) (rateLeft (t .denominator) p (places t)) (burstsAbove p (places t)) (slotsIn stretch) (grantsTo p stretch)
+    floorSides (t .denominator) (requestorAt p (requestorsOf t) .rate) (rateLeft (t .denominator) p (requestorsOf t)) (burstsAbove p (requestorsOf t)) (slotsIn stretch) (grantsTo p stretch)
 
 -- a question, and the reply that the paper has written down
 pub record Row : Type 0 where

@@ -9,7 +9,7 @@ use Rattle.lists.specs.Runs.{answers}
 use Rattle.lists.proofs.Runs.{each, along}
 use Rattle.arbiter.specs.declared.table.Table.{Table}
 use Rattle.arbiter.specs.declared.state.Arbiter.{Arbiter}
-use Rattle.arbiter.specs.Table.{rate, burst, places}
+use Rattle.arbiter.specs.Table.{rate, burst, requestorsOf}
 use Rattle.arbiter.specs.State.{credit}
 use Rattle.arbiter.proofs.Sound.{Sound}
 use Rattle.calls.specs.Rule.{slotted}
@@ -24,7 +24,7 @@ use Rattle.guarantees.proofs.Sound.{sound-credits}
 module _ (T : Table) (k C : ℕ) where
   -- T stands, and t slots with g grants to the first k places keep their credits within C + t × rates
   abbrev Paid : ℕ → ℕ → Arbiter → Type 0
-  Paid t g s = (s .table ≡ T) × (total credit (take k (s .accounts)) + T .denominator * g ≤ C + t * total rate (take k (places T)))
+  Paid t g s = (s .table ≡ T) × (total credit (take k (s .accounts)) + T .denominator * g ≤ C + t * total rate (take k (requestorsOf T)))
 
   paid-next : (t g : ℕ) (s : Arbiter) (c : Call) → Unit {0} → Paid t g s
       → Paid (slotIn (ruled s c .answer) + t) (grantToFirst k (ruled s c .answer) + g) (ruled s c .state)
@@ -32,17 +32,17 @@ module _ (T : Table) (k C : ℕ) where
   paid-next t g s c w (on, h) = (
     table-stands s c ∙ on,
     by-kind
-        (λ c u a. total credit (take k (u .accounts)) + T .denominator * (grantToFirst k a + g) ≤ C + (slotIn a + t) * total rate (take k (places T))) s c
+        (λ c u a. total credit (take k (u .accounts)) + T .denominator * (grantToFirst k a + g) ≤ C + (slotIn a + t) * total rate (take k (requestorsOf T))) s c
         (λ r e. omega arith)
         (λ p count e. omega (arith, filled-credits s k p count))
         (λ e. rw (slot-in (s .slot .0) (grantOf s), grant-to-first k (s .slot .0) (grantOf s), on)
-        (omega (arith, slotted-rise (T .denominator) k (places T) (s .accounts)))),
+        (omega (arith, slotted-rise (T .denominator) k (requestorsOf T) (s .accounts)))),
   )
 
 -- T is the table that stands where the stretch begins
 pub ceiling-from : (limit : ℕ) (T : Table) (s : Arbiter) → s .table ≡ T → Sound limit s → (inside : List Call) (k : ℕ) → k ≤ T .count
-    → Ceiling (T .denominator) (places T) k (slotsIn (answers ruled s inside)) (grantsToFirst k (answers ruled s inside))
+    → Ceiling (T .denominator) (requestorsOf T) k (slotsIn (answers ruled s inside)) (grantsToFirst k (answers ruled s inside))
 ceiling-from limit T s on v inside k h =
     let C : ℕ = total credit (take k (s .accounts)) in
-    let enters : C ≤ total burst (take k (places T)) = rw on at (sound-credits limit s v k) h in
+    let enters : C ≤ total burst (take k (requestorsOf T)) = rw on at (sound-credits limit s v k) h in
     omega (arith, along ruled (λ s a. Unit {0}) slotIn (grantToFirst k) (Paid T k C) (paid-next T k C) 0 0 s inside (each ruled s inside) (on, omega arith) .1)

@@ -8,7 +8,7 @@ use Rattle.lists.specs.Runs.{end, answers}
 use Rattle.arbiter.specs.declared.refusals.Refusal.{Refusal}
 use Rattle.arbiter.specs.declared.state.Arbiter.{Arbiter}
 use Rattle.arbiter.specs.Answers.{refused}
-use Rattle.arbiter.specs.Table.{places}
+use Rattle.arbiter.specs.Table.{requestorsOf}
 use Rattle.arbiter.specs.State.{backlog, accountAt}
 use Rattle.arbiter.specs.Start.{opening}
 use Rattle.arbiter.proofs.Sound.{Sound, opening-backlog}
@@ -35,7 +35,7 @@ unfolding brought advanced grantOf slotted
 conserved-next limit p s c v = by-kind (λ c u a. brought p c a + backlog (accountAt p (s .accounts)) ≡ grantTo p a + backlog (accountAt p (u .accounts))) s c
     (λ r e. omega (arith, brought-refused p c r))
     (λ q count e. omega (arith, filled-backlog s p q count (omega (arith, post-place s q count e, accounts-cover limit s v))))
-    (λ e. omega (arith, grant-to p (s .slot .0) (grantOf s), slotted-backlog (s .table .denominator) p (places (s .table)) (s .accounts)))
+    (λ e. omega (arith, grant-to p (s .slot .0) (grantOf s), slotted-backlog (s .table .denominator) p (requestorsOf (s .table)) (s .accounts)))
 
 -- any calls, from any sound state
 pub conserved : (limit p : ℕ) (s : Arbiter) (calls : List Call) → Sound limit s

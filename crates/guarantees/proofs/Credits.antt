@@ -9,8 +9,8 @@ use lib.ListN.{length, take}
 use Rattle.lists.specs.Sums.{total}
 use Rattle.arbiter.specs.declared.table.Requestor.{Requestor}
 use Rattle.arbiter.specs.declared.state.Account.{Account}
-use Rattle.arbiter.specs.Table.{rate, burst}
-use Rattle.arbiter.specs.State.{credit, backlog, requestorAt, accountAt}
+use Rattle.arbiter.specs.Table.{rate, burst, requestorAt}
+use Rattle.arbiter.specs.State.{credit, backlog, accountAt}
 use Rattle.calls.specs.declared.slot.Grant.the-variants.{Nobody}
 use Rattle.calls.specs.Rule.{first, served, after, slotted}
 use Rattle.calls.proofs.Accounts.{passed-most, passed-within}

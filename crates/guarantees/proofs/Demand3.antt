@@ -9,7 +9,7 @@ use native.Mathlib.Omega.{arith}
 use Rattle.lists.specs.Runs.{end, answers}
 use Rattle.arbiter.specs.declared.table.Table.{Table}
 use Rattle.arbiter.specs.declared.state.Arbiter.{Arbiter}
-use Rattle.arbiter.specs.Table.{places}
+use Rattle.arbiter.specs.Table.{requestorsOf}
 use Rattle.arbiter.specs.State.{credit, accountAt}
 use Rattle.arbiter.proofs.Sound.{Sound}
 use Rattle.calls.specs.Calls.{Call, ruled, called}
@@ -29,7 +29,7 @@ floor-of-sharper d n R B c L g rated enters (inr a) = omega (arith, mul-le-mul-l
 -- T is the table that stands where the stretch begins
 pub floor-from : (limit : ℕ) (T : Table) (s : Arbiter) → s .table ≡ T → Sound limit s → (inside : List Call) (p : ℕ) → p < T .count → Waits p s inside
     → T .denominator ≤ credit (accountAt p (s .accounts))
-    → Floor (T .denominator) (places T) p (slotsIn (answers ruled s inside)) (grantsTo p (answers ruled s inside))
+    → Floor (T .denominator) (requestorsOf T) p (slotsIn (answers ruled s inside)) (grantsTo p (answers ruled s inside))
 floor-from limit T s on v inside p place waits enters =
     omega (
       arith,

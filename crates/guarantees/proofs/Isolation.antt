@@ -17,7 +17,7 @@ use Rattle.arbiter.specs.declared.state.Account.{Account}
 use Rattle.arbiter.specs.declared.state.Arbiter.{Arbiter}
 use Rattle.arbiter.specs.Refusals.{Verdict, faultless, fault}
 use Rattle.arbiter.specs.Answers.{Answer}
-use Rattle.arbiter.specs.Table.{places}
+use Rattle.arbiter.specs.Table.{requestorsOf}
 use Rattle.arbiter.specs.State.{noAccount}
 use Rattle.arbiter.proofs.Sound.{Sound}
 use Rattle.calls.specs.declared.slot.Grant.{Grant}
@@ -101,7 +101,7 @@ record Seen (m : ℕ) (whole part : Result Arbiter Answer) : Type 0 where
 module _ (m : ℕ) (s : Arbiter) where
   cut-grant : grantOf (cut m s) ≡ seen m (grantOf s)
   unfolding cut grantOf
-  cut-grant = first-take (s .table .denominator) m (places (s .table)) (s .accounts)
+  cut-grant = first-take (s .table .denominator) m (requestorsOf (s .table)) (s .accounts)
 
   cut-advanced : (g : Grant) → advanced (cut m s) (seen m g) ≡ cut m (advanced s g)
   unfolding cut advanced

@@ -13,9 +13,9 @@ use Rattle.lists.specs.Runs.{answers}
 use Rattle.arbiter.specs.declared.table.Table.{Table}
 use Rattle.arbiter.specs.declared.state.Arbiter.{Arbiter}
 use Rattle.arbiter.specs.Answers.{Answer, accepted, granted, idle, refused}
-use Rattle.arbiter.specs.Table.{places}
+use Rattle.arbiter.specs.Table.{requestorsOf, requestorAt}
 use Rattle.arbiter.specs.Figures.{roundedUp, burstsAbove, rateLeft, finishOf, finish}
-use Rattle.arbiter.specs.State.{backlog, requestorAt, accountAt}
+use Rattle.arbiter.specs.State.{backlog, accountAt}
 use Rattle.arbiter.proofs.Checks.{fair}
 use Rattle.arbiter.proofs.Sound.{Sound, places-length, row-at, sound-fair, start-admitted}
 use Rattle.calls.specs.Calls.{Call, ruled}
@@ -85,7 +85,7 @@ floor-enough d n R B L g j hd hn hR floor figure = elim (decLe j g) [
 
 -- T is the table that stands where the stretch begins; any number of slots from the finish figure on will do
 pub need-from : (limit : ℕ) (T : Table) (s : Arbiter) → s .table ≡ T → Sound limit s → (inside : List Call) (p j slots : ℕ)
-    → Pending limit s inside p j → finish (T .denominator) (places T) p j ≤ slots → GrantedWithin limit s inside slots p j
+    → Pending limit s inside p j → finish (T .denominator) (requestorsOf T) p j ≤ slots → GrantedWithin limit s inside slots p j
 unfolding finish
 need-from limit T s on v inside p j slots pending figure reached =
     rw (answers-ruled limit s inside v, ← first-calls-answer s inside slots) (omega (arith, go (waits-or-granted limit p j s calls v (omega arith))))
@@ -102,7 +102,7 @@ need-from limit T s on v inside p j slots pending figure reached =
 
     go : (j ≤ grantsTo p (answers ruled s calls)) ⊎ Waits p s calls → j ≤ grantsTo p (answers ruled s calls)
     go (inl all) = all
-    go (inr waits) = floor-enough (T .denominator) (requestorAt p (places T) .rate) (rateLeft (T .denominator) p (places T)) (burstsAbove p (places T)) _ _ j
+    go (inr waits) = floor-enough (T .denominator) (requestorAt p (requestorsOf T) .rate) (rateLeft (T .denominator) p (requestorsOf T)) (burstsAbove p (requestorsOf T)) _ _ j
         (rw on at (sound-fair limit s v .denominator-least))
         (row-at limit T (rw on at (v .rows)) (rw on at (sound-fair limit s v)) p place .rate-least)
         (own-rate-left limit T s on v p place .1)
@@ -122,5 +122,5 @@ pub own-need : Own-need
 own-need limit t first a before inside p pending =
     let table = start-admitted limit t first (start-passes limit t first a) in
     let on = called-table limit t first a before in
-    let place : p < length (places t) = omega (arith, ap (λ t. t .count) on, places-length limit t (a .rows) (fair limit t (table .passes))) in
+    let place : p < length (requestorsOf t) = omega (arith, ap (λ t. t .count) on, places-length limit t (a .rows) (fair limit t (table .passes))) in
     need-from limit t _ on (called-sound limit t first a before) inside p _ _ pending (omega (arith, table .need p place))

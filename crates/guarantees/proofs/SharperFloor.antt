@@ -12,9 +12,9 @@ use Rattle.lists.proofs.Runs.{along}
 use Rattle.arbiter.specs.declared.table.Table.{Table}
 use Rattle.arbiter.specs.declared.state.Account.{Account}
 use Rattle.arbiter.specs.declared.state.Arbiter.{Arbiter}
-use Rattle.arbiter.specs.Table.{rate, places}
+use Rattle.arbiter.specs.Table.{rate, requestorsOf, requestorAt}
 use Rattle.arbiter.specs.Figures.{burstsAbove, ratesAbove, rateLeft}
-use Rattle.arbiter.specs.State.{credit, backlog, requestorAt, accountAt}
+use Rattle.arbiter.specs.State.{credit, backlog, accountAt}
 use Rattle.arbiter.proofs.Sound.{Sound, rates-most, sound-fair}
 use Rattle.calls.specs.Rule.{first, slotted}
 use Rattle.calls.specs.Calls.{Call, grantOf, advanced, ruled}
@@ -69,7 +69,7 @@ module _ (d n R B c₀ : ℕ) where
 
 -- the invariant of the accounts, with table T's figures for place p
 abbrev At : Table → (p c₀ t g : ℕ) → List Account → Type 0
-At T p c₀ t g accounts = Held (T .denominator) (requestorAt p (places T) .rate) (rateLeft (T .denominator) p (places T)) (burstsAbove p (places T)) c₀
+At T p c₀ t g accounts = Held (T .denominator) (requestorAt p (requestorsOf T) .rate) (rateLeft (T .denominator) p (requestorsOf T)) (burstsAbove p (requestorsOf T)) c₀
     t g (total credit (take p accounts)) (credit (accountAt p accounts))
 
 -- T stands, the state is sound, and the invariant holds of t slots and g grants
@@ -77,19 +77,19 @@ abbrev Kept : ℕ → Table → (p c₀ t g : ℕ) → Arbiter → Type 0
 Kept limit T p c₀ t g s = (s .table ≡ T) × Sound limit s × At T p c₀ t g (s .accounts)
 
 module _ (T : Table) (p c₀ t g : ℕ) (place : p < T .count) where
-  at-slot : (accounts : List Account) → length (places T) ≡ T .count → ratesAbove p (places T) ≤ T .denominator
-      → Roomy (T .denominator) (places T) accounts → 0 < backlog (accountAt p accounts) → At T p c₀ t g accounts
-      → At T p c₀ (1 + t) (toPlace p (first (T .denominator) (places T) accounts) + g) (slotted (T .denominator) (places T) accounts)
-  at-slot accounts count rated roomy waits v = go (turn (T .denominator) p (places T) accounts (omega arith) waits)
+  at-slot : (accounts : List Account) → length (requestorsOf T) ≡ T .count → ratesAbove p (requestorsOf T) ≤ T .denominator
+      → Roomy (T .denominator) (requestorsOf T) accounts → 0 < backlog (accountAt p accounts) → At T p c₀ t g accounts
+      → At T p c₀ (1 + t) (toPlace p (first (T .denominator) (requestorsOf T) accounts) + g) (slotted (T .denominator) (requestorsOf T) accounts)
+  at-slot accounts count rated roomy waits v = go (turn (T .denominator) p (requestorsOf T) accounts (omega arith) waits)
     where
-      go : Turn (T .denominator) p (places T) accounts
-          → At T p c₀ (1 + t) (toPlace p (first (T .denominator) (places T) accounts) + g) (slotted (T .denominator) (places T) accounts)
+      go : Turn (T .denominator) p (requestorsOf T) accounts
+          → At T p c₀ (1 + t) (toPlace p (first (T .denominator) (requestorsOf T) accounts) + g) (slotted (T .denominator) (requestorsOf T) accounts)
       go (above a x c) = rw (x, zero-add g)
-          (held-above _ _ _ _ c₀ t g _ _ _ _ (omega (arith, rw a at (slotted-rise (T .denominator) p (places T) accounts))) c v)
+          (held-above _ _ _ _ c₀ t g _ _ _ _ (omega (arith, rw a at (slotted-rise (T .denominator) p (requestorsOf T) accounts))) c v)
       go (own a x c) = rw x
-          (held-own _ _ _ _ c₀ t g _ _ _ _ (omega (arith, rw a at (slotted-rise (T .denominator) p (places T) accounts))) c v)
+          (held-own _ _ _ _ c₀ t g _ _ _ _ (omega (arith, rw a at (slotted-rise (T .denominator) p (requestorsOf T) accounts))) c v)
       go (short a x l c) = rw (x, zero-add g)
-          (held-short _ _ _ _ c₀ t g _ _ _ _ (slotted-within (T .denominator) p (places T) accounts (omega arith) roomy a) l c v)
+          (held-short _ _ _ _ c₀ t g _ _ _ _ (slotted-within (T .denominator) p (requestorsOf T) accounts (omega arith) roomy a) l c v)
 
 kept-next : (limit : ℕ) (T : Table) (p c₀ : ℕ) → p < T .count → (t g : ℕ) (s : Arbiter) (c : Call) → WaitsAt p s (ruled s c .answer)
     → Kept limit T p c₀ t g s → Kept limit T p c₀ (slotIn (ruled s c .answer) + t) (grantTo p (ruled s c .answer) + g) (ruled s c .state)
@@ -108,14 +108,14 @@ kept-next limit T p c₀ place t g s c waits (on, v, held) = (
 
 -- T is the table that stands where the stretch begins
 module _ (limit : ℕ) (T : Table) (s : Arbiter) (on : s .table ≡ T) (v : Sound limit s) (p : ℕ) (place : p < T .count) where
-  pub own-rate-left : (requestorAt p (places T) .rate ≤ rateLeft (T .denominator) p (places T)) × (1 ≤ rateLeft (T .denominator) p (places T))
+  pub own-rate-left : (requestorAt p (requestorsOf T) .rate ≤ rateLeft (T .denominator) p (requestorsOf T)) × (1 ≤ rateLeft (T .denominator) p (requestorsOf T))
   own-rate-left = rate-left limit T (rw on at (v .rows)) (rw on at (v .passes)) p place
 
   pub sharper-from : (inside : List Call) → Waits p s inside
-      → Sharper (T .denominator) (places T) p (credit (accountAt p (s .accounts))) (slotsIn (answers ruled s inside)) (grantsTo p (answers ruled s inside))
+      → Sharper (T .denominator) (requestorsOf T) p (credit (accountAt p (s .accounts))) (slotsIn (answers ruled s inside)) (grantsTo p (answers ruled s inside))
   sharper-from inside waits =
       let c₀ : ℕ = credit (accountAt p (s .accounts)) in
-      let enters : total credit (take p (s .accounts)) ≤ burstsAbove p (places T) = rw on at (sound-credits limit s v p) (omega arith) in
+      let enters : total credit (take p (s .accounts)) ≤ burstsAbove p (requestorsOf T) = rw on at (sound-credits limit s v p) (omega arith) in
       rw (add-zero (slotsIn (answers ruled s inside)), add-zero (grantsTo p (answers ruled s inside))) at
       (held-sharp _ _ _ _ c₀ _ _ _ _ (own-rate-left .0)
       (along ruled (WaitsAt p) slotIn (grantTo p) (Kept limit T p c₀) (kept-next limit T p c₀ place) 0 0 s inside waits

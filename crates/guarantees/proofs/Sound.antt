@@ -14,7 +14,7 @@ use Rattle.lists.specs.Runs.{end, answers}
 use Rattle.lists.proofs.Runs.{keeps, same-end, same-answers}
 use Rattle.arbiter.specs.declared.state.Arbiter.{Arbiter}
 use Rattle.arbiter.specs.Refusals.{faultless, gate}
-use Rattle.arbiter.specs.Table.{burst, places}
+use Rattle.arbiter.specs.Table.{burst, requestorsOf}
 use Rattle.arbiter.specs.State.{credit, accountClear, sound}
 use Rattle.arbiter.proofs.Checks.{Fair}
 use Rattle.arbiter.proofs.Sound.{Sound, sums-past, rates-most, places-length, sound-open, sound-shut, sound-fair}
@@ -36,16 +36,16 @@ module _ (limit : ℕ) (s : Arbiter) where
     fair-table : Fair limit (s .table)
     fair-table = sound-fair limit s v
 
-    pub places-count : length (places (s .table)) ≡ s .table .count
+    pub places-count : length (requestorsOf (s .table)) ≡ s .table .count
     places-count = places-length limit (s .table) (v .rows) fair-table
 
     pub accounts-cover : s .table .count ≤ length (s .accounts)
     accounts-cover = omega (arith, fair-table .count-most, v .accounts)
 
-    pub sound-roomy : Roomy (s .table .denominator) (places (s .table)) (s .accounts)
+    pub sound-roomy : Roomy (s .table .denominator) (requestorsOf (s .table)) (s .accounts)
     sound-roomy p h waits = fair-table .row p h .burst-least
 
-    pub sound-credits : (k : ℕ) → k ≤ s .table .count → total credit (take k (s .accounts)) ≤ total burst (take k (places (s .table)))
+    pub sound-credits : (k : ℕ) → k ≤ s .table .count → total credit (take k (s .accounts)) ≤ total burst (take k (requestorsOf (s .table)))
     sound-credits k h = omega (arith, v .sums k, ap (total burst) (take-take k (s .table .count) (s .table .requestors) h))
 
     filled-sound : (p count : ℕ) → ruleVerdict s (post p count) ≡ faultless → Sound limit (filled s p count)
@@ -67,14 +67,14 @@ module _ (limit : ℕ) (s : Arbiter) where
 
     advanced-clear : every accountClear (drop (s .table .count) (advanced s (grantOf s) .accounts)) ≡ true
     unfolding advanced
-    advanced-clear = rw (rw places-count at (after-past (s .table .denominator) (grantOf s) (places (s .table)) (s .accounts))) (v .clear)
+    advanced-clear = rw (rw places-count at (after-past (s .table .denominator) (grantOf s) (requestorsOf (s .table)) (s .accounts))) (v .clear)
 
     advanced-sums : (k : ℕ) → k ≤ s .table .count → total credit (take k (advanced s (grantOf s) .accounts)) ≤ total burst (take k (s .table .requestors))
     unfolding advanced grantOf slotted
     advanced-sums k h = omega (
       arith,
       ap (total burst) (take-take k (s .table .count) (s .table .requestors) h),
-      slotted-kept (s .table .denominator) k (places (s .table)) (s .accounts) (omega (arith, places-count)) sound-roomy
+      slotted-kept (s .table .denominator) k (requestorsOf (s .table)) (s .accounts) (omega (arith, places-count)) sound-roomy
           (rates-most limit (s .table) fair-table k) (sound-credits k h),
     )
 
@@ -82,10 +82,10 @@ module _ (limit : ℕ) (s : Arbiter) where
     unfolding advanced grantOf slotted
     advanced-sound e = record {
       rows = v .rows;
-      accounts = after-length _ (grantOf s) (places (s .table)) (s .accounts) ∙ v .accounts;
+      accounts = after-length _ (grantOf s) (requestorsOf (s .table)) (s .accounts) ∙ v .accounts;
       passes = v .passes;
       slot-most = omega (arith, slot-below s e);
-      backlog-most = λ q h. omega (arith, slotted-backlog (s .table .denominator) q (places (s .table)) (s .accounts), v .backlog-most q h);
+      backlog-most = λ q h. omega (arith, slotted-backlog (s .table .denominator) q (requestorsOf (s .table)) (s .accounts), v .backlog-most q h);
       sums = sums-past (s .table .count) (s .table .requestors) (advanced s (grantOf s) .accounts) advanced-clear advanced-sums;
       clear = advanced-clear;
     }

@@ -7,7 +7,8 @@ use native.Mathlib.Omega.{arith}
 use lib.ListN.{length}
 use Rattle.arbiter.specs.declared.table.Requestor.{Requestor}
 use Rattle.arbiter.specs.declared.state.Account.{Account}
-use Rattle.arbiter.specs.State.{credit, backlog, requestorAt, accountAt}
+use Rattle.arbiter.specs.State.{credit, backlog, accountAt}
+use Rattle.arbiter.specs.Table.{requestorAt}
 use Rattle.calls.specs.declared.slot.Grant.the-variants.{Nobody}
 use Rattle.calls.specs.Rule.{first, served, after, slotted}
 use Rattle.calls.proofs.Accounts.{passed-waiting}

@@ -11,9 +11,9 @@ use Rattle.arbiter.specs.declared.table.Table.{Table}
 use Rattle.arbiter.specs.declared.state.Arbiter.{Arbiter}
 use Rattle.arbiter.specs.Refusals.{faultless, refusal}
 use Rattle.arbiter.specs.Answers.{refused}
-use Rattle.arbiter.specs.Table.{burst, places, tableVerdict}
+use Rattle.arbiter.specs.Table.{burst, requestorsOf, tableVerdict, requestorAt}
 use Rattle.arbiter.specs.Figures.{rateLeft}
-use Rattle.arbiter.specs.State.{credit, requestorAt, sound}
+use Rattle.arbiter.specs.State.{credit, sound}
 use Rattle.calls.specs.Calls.{Call, called}
 use Rattle.guarantees.specs.Counts.{Accepted, opened}
 
@@ -30,4 +30,4 @@ Credit-sums = (limit : ℕ) (t : Table) (first : ℕ) → Accepted limit t first
 -- n ≤ R, so R ≥ 1, at every place of a table that passes checks 1 to 6
 abbrev pub Rate-left : Type 0
 Rate-left = (limit : ℕ) (t : Table) → length (t .requestors) ≡ limit → tableVerdict limit t ≡ faultless → (p : ℕ) → p < t .count
-    → (requestorAt p (places t) .rate ≤ rateLeft (t .denominator) p (places t)) × (1 ≤ rateLeft (t .denominator) p (places t))
+    → (requestorAt p (requestorsOf t) .rate ≤ rateLeft (t .denominator) p (requestorsOf t)) × (1 ≤ rateLeft (t .denominator) p (requestorsOf t))

@@ -10,9 +10,9 @@ use Rattle.arbiter.specs.declared.table.Requestor.{Requestor}
 use Rattle.arbiter.specs.declared.table.Table.{Table}
 use Rattle.arbiter.specs.declared.state.Arbiter.{Arbiter}
 use Rattle.arbiter.specs.Answers.{Answer}
-use Rattle.arbiter.specs.Table.{rate, burst, places}
+use Rattle.arbiter.specs.Table.{rate, burst, requestorsOf, requestorAt}
 use Rattle.arbiter.specs.Figures.{burstsAbove, rateLeft}
-use Rattle.arbiter.specs.State.{credit, requestorAt, accountAt}
+use Rattle.arbiter.specs.State.{credit, accountAt}
 use Rattle.arbiter.specs.Start.{opening}
 use Rattle.calls.specs.Calls.{Call, ruled, called}
 use Rattle.guarantees.specs.Counts.{slotsIn, grantsTo, grantsToFirst, Waits, Accepted, opened}
@@ -53,11 +53,11 @@ module _ (limit : ℕ) (t : Table) (first : ℕ) (before inside : List Call) whe
     pub heard-by-rule : heard ≡ Runs.answers ruled ruledEntered inside
     pub left-by-rule : Runs.end (called limit) entered inside ≡ Runs.end ruled ruledEntered inside
     -- (ii) the ceiling
-    pub ceiling : (k : ℕ) → 1 ≤ k → k ≤ t .count → Ceiling (t .denominator) (places t) k (slotsIn heard) (grantsToFirst k heard)
+    pub ceiling : (k : ℕ) → 1 ≤ k → k ≤ t .count → Ceiling (t .denominator) (requestorsOf t) k (slotsIn heard) (grantsToFirst k heard)
     -- (iii) the floor
     pub floor : (p : ℕ) → p < t .count → Waits p ruledEntered inside
         → t .denominator ≤ credit (accountAt p (ruledEntered .accounts))
-        → Floor (t .denominator) (places t) p (slotsIn heard) (grantsTo p heard)
+        → Floor (t .denominator) (requestorsOf t) p (slotsIn heard) (grantsTo p heard)
 
 abbrev pub Demand-3 : Type 0
 Demand-3 = (limit : ℕ) (t : Table) (first : ℕ) → Accepted limit t first → (before inside : List Call) → Demand3 limit t first before inside

@@ -9,9 +9,9 @@ use Rattle.lists.specs.Runs
 use Rattle.arbiter.specs.declared.table.Table.{Table}
 use Rattle.arbiter.specs.declared.state.Arbiter.{Arbiter}
 use Rattle.arbiter.specs.Answers.{Answer}
-use Rattle.arbiter.specs.Table.{places}
+use Rattle.arbiter.specs.Table.{requestorsOf, requestorAt}
 use Rattle.arbiter.specs.Figures.{finish}
-use Rattle.arbiter.specs.State.{credit, backlog, requestorAt, accountAt, sound}
+use Rattle.arbiter.specs.State.{credit, backlog, accountAt, sound}
 use Rattle.calls.specs.Calls.{Call, called}
 use Rattle.guarantees.specs.Counts.{slotsIn, grantsTo, firstSlots, Accepted, opened}
 
@@ -31,7 +31,7 @@ module _ (limit : ℕ) (s : Arbiter) (inside : List Call) where
   GrantedWithin slots p j = slots ≤ slotsIn heardFrom → j ≤ grantsTo p (firstSlots heardFrom slots)
 
 abbrev pub finishAt : Arbiter → ℕ → ℕ → ℕ
-finishAt s p j = finish (s .table .denominator) (places (s .table)) p j
+finishAt s p j = finish (s .table .denominator) (requestorsOf (s .table)) p j
 
 -- the state's arrays have `limit` elements each
 pub record Shaped (limit : ℕ) (s : Arbiter) : Type 0 where
@@ -47,10 +47,10 @@ Need-from-sound = (limit : ℕ) (s : Arbiter) → Shaped limit s → sound limit
 abbrev pub Need-from-start : Type 0
 Need-from-start = (limit : ℕ) (t : Table) (first : ℕ) → Accepted limit t first → (before inside : List Call) (p j : ℕ)
     → Pending limit (Runs.end (called limit) (opened limit t first) before) inside p j
-    → GrantedWithin limit (Runs.end (called limit) (opened limit t first) before) inside (finish (t .denominator) (places t) p j) p j
+    → GrantedWithin limit (Runs.end (called limit) (opened limit t first) before) inside (finish (t .denominator) (requestorsOf t) p j) p j
 
 -- the table's own j within its L
 abbrev pub Own-need : Type 0
 Own-need = (limit : ℕ) (t : Table) (first : ℕ) → Accepted limit t first → (before inside : List Call) (p : ℕ)
-    → Pending limit (Runs.end (called limit) (opened limit t first) before) inside p (requestorAt p (places t) .need .0)
-    → GrantedWithin limit (Runs.end (called limit) (opened limit t first) before) inside (requestorAt p (places t) .within .0) p (requestorAt p (places t) .need .0)
+    → Pending limit (Runs.end (called limit) (opened limit t first) before) inside p (requestorAt p (requestorsOf t) .need .0)
+    → GrantedWithin limit (Runs.end (called limit) (opened limit t first) before) inside (requestorAt p (requestorsOf t) .within .0) p (requestorAt p (requestorsOf t) .need .0)

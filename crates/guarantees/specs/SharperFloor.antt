@@ -7,9 +7,9 @@ use mathlib.Core.Logic.{_⊎_}
 use Prim.Native.Nat.{ℕ, _+_, _*_, _≤_, _<_}
 use Rattle.arbiter.specs.declared.table.Requestor.{Requestor}
 use Rattle.arbiter.specs.declared.state.Arbiter.{Arbiter}
-use Rattle.arbiter.specs.Table.{places}
+use Rattle.arbiter.specs.Table.{requestorsOf, requestorAt}
 use Rattle.arbiter.specs.Figures.{burstsAbove, rateLeft}
-use Rattle.arbiter.specs.State.{credit, requestorAt, accountAt, sound}
+use Rattle.arbiter.specs.State.{credit, accountAt, sound}
 use Rattle.calls.specs.Calls.{Call}
 use Rattle.guarantees.specs.Counts.{slotsIn, grantsTo, Waits}
 use Rattle.guarantees.specs.Need.{heardFrom, Shaped}
@@ -27,5 +27,5 @@ Sharper d rs p c L g = Sharp d (requestorAt p rs .rate) (rateLeft d p rs) (burst
 abbrev pub Sharper-floor : Type 0
 Sharper-floor = (limit : ℕ) (s : Arbiter) → Shaped limit s → sound limit s ≡ true → (inside : List Call) (p : ℕ)
     → p < s .table .count → Waits p s inside
-    → Sharper (s .table .denominator) (places (s .table)) p (credit (accountAt p (s .accounts)))
+    → Sharper (s .table .denominator) (requestorsOf (s .table)) p (credit (accountAt p (s .accounts)))
     (slotsIn (heardFrom limit s inside)) (grantsTo p (heardFrom limit s inside))

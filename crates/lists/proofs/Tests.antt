@@ -28,15 +28,6 @@ pub and-false : (a b : Bool) → b ≡ false → (a && b) ≡ false
 and-false true b e = e
 and-false false b e = refl
 
--- three tests of which the first two were made together
-pub and-both-true : (a b c : Bool) → (a && b) ≡ true → c ≡ (a && (b && c))
-and-both-true a b c e = let h = and-true a b e in rw (h .0, h .1)
-
-pub and-both-false : (a b c : Bool) → (a && b) ≡ false → false ≡ (a && (b && c))
-and-both-false true true c e = true-false e
-and-both-false true false c e = refl
-and-both-false false b c e = refl
-
 pub in-range-true : (low high x : ℕ) → inRange low high x ≡ true → (low ≤ x) × (x ≤ high)
 in-range-true low high x e =
     let a = and-true (leb low x) (leb x high) e in

@@ -20,11 +20,11 @@ use Rattle.arbiter.specs.declared.refusals.Named.the-variants as named
 use Rattle.arbiter.specs.declared.table.Table.{Table}
 use Rattle.arbiter.specs.declared.state.Arbiter.{Arbiter}
 use Rattle.arbiter.specs.declared.start.StartAnswer.the-variants as start-answer
-use Rattle.arbiter.specs.declared.start.Started.{Started}
+use Rattle.arbiter.specs.declared.start.StartResult.{StartResult}
 use Rattle.arbiter.specs.Refusals.{Verdict, faultless, fault, refusal, gate}
 use Rattle.arbiter.specs.State.{sound}
 use Rattle.arbiter.specs.Answers.{Answer, accepted, granted, idle, refused}
-use Rattle.arbiter.specs.Start.{resultOf, start}
+use Rattle.arbiter.specs.Start.{startResultOf, start}
 use Rattle.calls.specs.declared.slot.Grant.{Grant}
 use Rattle.calls.specs.declared.slot.Grant.the-variants.{Nobody, Place}
 use Rattle.calls.specs.Calls.{Call, post, slot, grantOf, slotAnswer, done, ruleVerdict, outcome, called}
@@ -234,7 +234,7 @@ module _ (limit : ℕ) (calls old : List ℕ) (s : Arbiter) (n : ℕ) where
 
 -- ---- the start before the calls
 
-module _ (limit : ℕ) (t : Table) (first : ℕ) (calls old : List ℕ) (begun : Started) (e : resultOf begun ≡ start limit t first) where
+module _ (limit : ℕ) (t : Table) (first : ℕ) (calls old : List ℕ) (begun : StartResult) (e : startResultOf begun ≡ start limit t first) where
   -- nothing follows a refused one
   pub replay-refused : (c : Cause) → begun .answer ≡ start-answer.Refused c → replayedOf begun old ≡ replay limit t first calls old
   unfolding replay continued

@@ -12,7 +12,7 @@ use Rattle.arbiter.specs.declared.refusals.Named.{Named}
 use Rattle.arbiter.specs.declared.refusals.Named.the-variants as named
 use Rattle.arbiter.specs.declared.table.Table.{Table}
 use Rattle.arbiter.specs.declared.state.Arbiter.{Arbiter}
-use Rattle.arbiter.specs.declared.start.Started as code-result
+use Rattle.arbiter.specs.declared.start.StartResult as code-result
 use Rattle.arbiter.specs.Answers.{Answer, accepted, granted, idle, refused}
 use Rattle.arbiter.specs.Start.{answerOf, start}
 use Rattle.calls.specs.Calls.{Call, post, slot, called}
@@ -91,7 +91,7 @@ unfoldable pub replay : ℕ → Table → (first : ℕ) → (calls old : List �
 replay limit t first calls old = continued limit (start limit t first) calls old
 
 -- the code's result and the lent answers in these values
-abbrev pub replayedOf : code-result.Started → (words : List ℕ) → Replayed
+abbrev pub replayedOf : code-result.StartResult → (words : List ℕ) → Replayed
 replayedOf r words = record { state = r .state; answer = answerOf (r .answer); words = words }
 
 -- the code's three numbers as a list

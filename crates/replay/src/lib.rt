@@ -3,7 +3,7 @@
 use arbiter::refusals::Cause;
 use arbiter::refusals::Named;
 use arbiter::start::StartAnswer;
-use arbiter::start::Started;
+use arbiter::start::StartResult;
 use arbiter::state::Arbiter;
 use arbiter::table::Table;
 use arbiter::units::Slots;
@@ -137,7 +137,7 @@ fn make_calls(s: Arbiter, calls: &[u32], answers: &mut [u64]) -> Arbiter
 // the answer is the start's; a refused start makes no call and writes nothing. A call is three numbers: 0 for a slot or any
 // other for a post, the place, and the count. An answer is three numbers: 0, 0, 0 for accepted; 1, the stamp and the place for
 // granted; 2, the stamp and 0 for idle; 3, the refusal's number and one more than its place, or 0 where it names none.
-pub fn replay(t: Table, first: Slots, calls: &[u32], answers: &mut [u64]) -> Started
+pub fn replay(t: Table, first: Slots, calls: &[u32], answers: &mut [u64]) -> StartResult
     ensures { λ r. ⌜ replayedOf r (now (answers .exit)) ≡ replay maxPlaces t (first .0) (now (calls .entry)) (now (answers .entry)) ⌝ }
 {
     let begun = Arbiter::start(t, first);
@@ -145,7 +145,7 @@ pub fn replay(t: Table, first: Slots, calls: &[u32], answers: &mut [u64]) -> Sta
     let a = begun.answer;
     match a {
         StartAnswer::Refused(_) => begun,
-        StartAnswer::Started => Started {
+        StartAnswer::Started => StartResult {
             state: make_calls(s, calls, answers),
             answer: StartAnswer::Started,
         },

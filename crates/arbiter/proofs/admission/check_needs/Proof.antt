@@ -6,7 +6,7 @@ use native.Mathlib.Omega.{arith}
 use lib.ListN.{length, length-map, drop}
 use Rattle.arbiter.specs.Limits.{maxPlaces}
 use Rattle.arbiter.specs.Refusals.{verdictOf}
-use Rattle.arbiter.specs.Table.{places, eachPlace}
+use Rattle.arbiter.specs.Table.{requestorsOf, eachPlace}
 use Rattle.arbiter.specs.Figures.{needVerdict}
 use Rattle.arbiter.proofs.Checks.{fair}
 use Rattle.arbiter.proofs.Places.{each-pass, each-stop, each-end}
@@ -14,7 +14,7 @@ use Rattle.arbiter.proofs.admission.check_needs.Statement.{statement}
 use Rattle.arbiter.proofs.admission.check_needs.Tie as tie
 
 abbrev Inv-loop : tie.InvT-loop
-Inv-loop t n p₀ p = (p ≤ n) × (eachPlace (needVerdict (t .denominator) (places t)) 0 (places t) ≡ eachPlace (needVerdict (t .denominator) (places t)) p (drop p (places t)))
+Inv-loop t n p₀ p = (p ≤ n) × (eachPlace (needVerdict (t .denominator) (requestorsOf t)) 0 (requestorsOf t) ≡ eachPlace (needVerdict (t .denominator) (requestorsOf t)) p (drop p (requestorsOf t)))
 
 abbrev μ-loop : tie.MeasureT-loop
 μ-loop t n p₀ p = n - p
@@ -43,7 +43,7 @@ loop-again c =
     let a = (c .before .before .before .before .before) in
     let l = c .before .before .before .before .loop in
     let e = sym (c .before .before .check-need .ensures) ∙ ap verdictOf (c .enum-told .given .1) in
-    (omega arith, l .inv .1 ∙ each-pass (needVerdict (a .args .t .denominator) (places (a .args .t))) (a .args .t .requestors) (a .args .t .count) (l .p) (omega (arith, long a, fair maxPlaces (a .args .t) (a .pre) .count-most)) (omega arith) e)
+    (omega arith, l .inv .1 ∙ each-pass (needVerdict (a .args .t .denominator) (requestorsOf (a .args .t))) (a .args .t .requestors) (a .args .t .count) (l .p) (omega (arith, long a, fair maxPlaces (a .args .t) (a .pre) .count-most)) (omega arith) e)
 
 enum-told-2 : tie.Need-enum-told-2 Inv-loop μ-loop
 enum-told-2 c = omega arith
@@ -52,7 +52,7 @@ returns : tie.Need-returns Inv-loop μ-loop
 returns c =
     let a = (c .before .before) in
     let l = c .before .loop in
-    sym (l .inv .1 ∙ each-end (needVerdict (a .args .t .denominator) (places (a .args .t))) (a .args .t .requestors) (a .args .t .count) (l .p) (omega arith))
+    sym (l .inv .1 ∙ each-end (needVerdict (a .args .t .denominator) (requestorsOf (a .args .t))) (a .args .t .requestors) (a .args .t .count) (l .p) (omega arith))
 
 returns-2 : tie.Need-returns-2 Inv-loop μ-loop
 returns-2 c =
@@ -60,7 +60,7 @@ returns-2 c =
     let l = c .before .before .before .before .loop in
     let e = sym (c .before .before .check-need .ensures) ∙ ap verdictOf (c .enum-told2 .given .1) in
     ap verdictOf (c .enum-told2 .given .1)
-    ∙ sym (l .inv .1 ∙ each-stop (needVerdict (a .args .t .denominator) (places (a .args .t))) (a .args .t .requestors) (a .args .t .count) (l .p) (omega (arith, long a, fair maxPlaces (a .args .t) (a .pre) .count-most)) (omega arith) _ e)
+    ∙ sym (l .inv .1 ∙ each-stop (needVerdict (a .args .t .denominator) (requestorsOf (a .args .t))) (a .args .t .requestors) (a .args .t .count) (l .p) (omega (arith, long a, fair maxPlaces (a .args .t) (a .pre) .count-most)) (omega arith) _ e)
 
 pub check-needs-spec : {M : Type 1} → statement M
 check-needs-spec =

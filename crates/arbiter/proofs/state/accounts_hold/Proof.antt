@@ -16,7 +16,7 @@ use Rattle.arbiter.specs.declared.table.Requestor.{Requestor}
 use Rattle.arbiter.specs.declared.state.Account.{Account}
 use Rattle.arbiter.specs.Limits.{maxPlaces}
 use Rattle.arbiter.specs.Table.{burst, noRequestor}
-use Rattle.arbiter.specs.State.{credit, noAccount, backlogFits, creditsHold}
+use Rattle.arbiter.specs.State.{credit, noAccount, backlogFits, creditsHold, accountsHold}
 use Rattle.arbiter.proofs.state.accounts_hold.Statement.{statement}
 use Rattle.arbiter.proofs.state.accounts_hold.Tie as tie
 
@@ -79,13 +79,13 @@ element-copy-out-a : tie.Need-element-copy-out-a Inv-loop μ-loop
 element-copy-out-a c = omega arith
 
 returns : tie.Need-returns Inv-loop μ-loop
+unfolding accountsHold
 returns c =
-    let a = (c .before .before .before .before .before .before .before .before) in
+    let a = c .before .before .before .before .before .before .before .before in
     let l = c .before .before .before .before .before .before .loop in
     let rs = a .args .t1 .table .requestors in
     let accounts = a .args .t1 .accounts in
     let n = a .args .t1 .table .count in
-    let v = l .inv in
     let inside : l .p < length (take n accounts) = simp length-take (omega (arith, long a)) in
     let e = every-fails backlogFits noAccount (take n accounts) (l .p) inside (rw (getD-take n accounts (l .p) noAccount (omega arith)) (lt-leb _ _ (c .if1 .taken))) in
     rw e
@@ -103,8 +103,9 @@ add-bursts : tie.Need-add-bursts Inv-loop μ-loop
 add-bursts c = omega arith
 
 returns-2 : tie.Need-returns-2 Inv-loop μ-loop
+unfolding accountsHold
 returns-2 c =
-    let a = (c .before .before .before .before .before .before .before .before .before .before .before) in
+    let a = c .before .before .before .before .before .before .before .before .before .before .before in
     let l = c .before .before .before .before .before .before .before .before .before .loop in
     let rs = a .args .t1 .table .requestors in
     let accounts = a .args .t1 .accounts in
@@ -122,7 +123,7 @@ loop-less c = omega arith
 
 loop-again : tie.Need-loop-again Inv-loop μ-loop
 loop-again c =
-    let a = (c .before .before .before .before .before .before .before .before .before .before .before) in
+    let a = c .before .before .before .before .before .before .before .before .before .before .before in
     let l = c .before .before .before .before .before .before .before .before .before .loop in
     let rs = a .args .t1 .table .requestors in
     let accounts = a .args .t1 .accounts in
@@ -132,8 +133,9 @@ loop-again c =
     (le-leb _ _ (c .before .before .before .if1 .left)) (c .if2 .left) (l .inv)
 
 returns-3 : tie.Need-returns-3 Inv-loop μ-loop
+unfolding accountsHold
 returns-3 c =
-    let a = (c .before .before .before) in
+    let a = c .before .before .before in
     let l = c .before .loop in
     let rs = a .args .t1 .table .requestors in
     let accounts = a .args .t1 .accounts in

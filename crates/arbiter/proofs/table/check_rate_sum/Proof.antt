@@ -2,6 +2,7 @@
 use borrow.Author.Tests.{le-leb, lt-leb}
 use borrow.Author.Needs.{needs}
 use Rattle.arbiter.specs.Refusals.{gate}
+use Rattle.arbiter.specs.Table.{rateSumVerdict}
 use Rattle.arbiter.proofs.table.check_rate_sum.Statement.{statement}
 use Rattle.arbiter.proofs.table.check_rate_sum.Tie as tie
 
@@ -12,11 +13,11 @@ cast-if1 : tie.Need-cast-if1
 cast-if1 c = search needs
 
 returns : tie.Need-returns
-unfolding gate
+unfolding gate rateSumVerdict
 returns c = rw (le-leb _ _ (rw (c .before .rates-above .ensures .0) at (c .if1 .taken)))
 
 returns-2 : tie.Need-returns-2
-unfolding gate
+unfolding gate rateSumVerdict
 returns-2 c = rw (lt-leb _ _ (rw (c .before .rates-above .ensures .0) at (c .if1 .left)))
 
 pub check-rate-sum-spec : {M : Type 1} → statement M

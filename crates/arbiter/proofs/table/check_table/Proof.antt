@@ -3,7 +3,7 @@ use mathlib.Core.Path.{sym, _∙_}
 use borrow.Author.Tests.{not-true, not-false}
 use borrow.Author.Needs.{needs}
 use Rattle.lists.proofs.Tests.{in-range-true}
-use Rattle.arbiter.proofs.Checks.{gate-passed, gate-then}
+use Rattle.arbiter.proofs.Checks.{gate-passed}
 use Rattle.arbiter.specs.Refusals.{gate}
 use Rattle.arbiter.specs.Table.{tableVerdict}
 use Rattle.arbiter.proofs.table.check_table.Statement.{statement}
@@ -48,8 +48,8 @@ returns-3 : tie.Need-returns-3
 unfolding tableVerdict
 returns-3 c =
     c .first-fault2 .ensures
-    ∙ rw (c .before .first-fault .ensures, c .before .before .before .before .check-tail .ensures, c .before .before .before .check-rows .ensures, c .before .before .check-rate-sum .ensures) (gate-then _ _ _)
-    ∙ sym (gate-passed _ _ _ (sym (c .before .before .before .before .before .before .before .before .in-range .ensures) ∙ not-false _ (c .before .before .before .before .before .before .before .if1 .left)) ∙ gate-passed _ _ _ (sym (c .before .before .before .before .before .before .in-range2 .ensures) ∙ not-false _ (c .before .before .before .before .before .if2 .left)))
+    ∙ rw (c .before .first-fault .ensures, c .before .before .before .before .check-tail .ensures, c .before .before .before .check-rows .ensures, c .before .before .check-rate-sum .ensures)
+    (sym (gate-passed _ _ _ (sym (c .before .before .before .before .before .before .before .before .in-range .ensures) ∙ not-false _ (c .before .before .before .before .before .before .before .if1 .left)) ∙ gate-passed _ _ _ (sym (c .before .before .before .before .before .before .in-range2 .ensures) ∙ not-false _ (c .before .before .before .before .before .if2 .left))))
 
 pub check-table-spec : {M : Type 1} → statement M
 check-table-spec =

@@ -2,6 +2,7 @@
 use mathlib.Core.Path.{sym, _∙_}
 use borrow.Author.Needs.{needs}
 use Rattle.arbiter.specs.Refusals.{gate}
+use Rattle.arbiter.specs.Table.{tailVerdict}
 use Rattle.arbiter.proofs.table.check_tail.Statement.{statement}
 use Rattle.arbiter.proofs.table.check_tail.Tie as tie
 
@@ -9,11 +10,11 @@ rest-is-clear-requires : tie.Need-rest-is-clear-requires
 rest-is-clear-requires c κs = search needs
 
 returns : tie.Need-returns
-unfolding gate
+unfolding gate tailVerdict
 returns c = rw (sym (c .before .rest-is-clear .ensures) ∙ c .if1 .taken)
 
 returns-2 : tie.Need-returns-2
-unfolding gate
+unfolding gate tailVerdict
 returns-2 c = rw (sym (c .before .rest-is-clear .ensures) ∙ c .if1 .left)
 
 pub check-tail-spec : {M : Type 1} → statement M

@@ -3,10 +3,7 @@
 use mathlib.Core.Path.{ap, sym, _∙_}
 use borrow.Author.Tests.{not-true, not-false, le-leb, lt-leb}
 use borrow.Author.Needs.{needs}
-use lib.ListN.{take, drop}
-use Rattle.lists.specs.Sums.{every, upTo}
-use Rattle.lists.proofs.Tests.{and-both-true, and-both-false}
-use Rattle.arbiter.specs.State.{backlogFits, creditsHold, accountClear, accountsSound, sound}
+use Rattle.arbiter.specs.State.{sound}
 use Rattle.arbiter.specs.Limits.{maxPlaces}
 use Rattle.arbiter.specs.Refusals.{verdictOf}
 use Rattle.arbiter.proofs.Checks.{fair}
@@ -23,37 +20,28 @@ enum-told-2 : tie.Need-enum-told-2
 enum-told-2 c = search needs
 
 returns : tie.Need-returns
-unfolding sound accountsSound
+unfolding sound
 returns c = rw (← c .before .before .before .before .check-table .ensures, c .before .before .enum-told2 .given .1, lt-leb _ _ (c .if1 .taken))
 
 accounts-hold-requires : tie.Need-accounts-hold-requires
 accounts-hold-requires c κs = fair maxPlaces _ (sym (c .before .before .before .before .check-table .ensures) ∙ ap verdictOf (c .before .before .enum-told2 .given .1)) .count-most
 
 returns-2 : tie.Need-returns-2
-unfolding sound accountsSound
-returns-2 c =
-    let s = (c .before .before .before .before .before .before .before .before .before) .args .self in
-    let n = s .table .count in
-    rw (← c .before .before .before .before .before .before .check-table .ensures, c .before .before .before .before .enum-told2 .given .1, le-leb _ _ (c .before .before .if1 .left))
-    (and-both-false (every backlogFits (take n (s .accounts))) (upTo n (creditsHold (s .table .requestors) (s .accounts))) (every accountClear (drop n (s .accounts)))
-    (sym (c .before .accounts-hold .ensures) ∙ not-true _ (c .if2 .taken)))
+unfolding sound
+returns-2 c = rw (← c .before .before .before .before .before .before .check-table .ensures, c .before .before .before .before .enum-told2 .given .1, le-leb _ _ (c .before .before .if1 .left), sym (c .before .accounts-hold .ensures) ∙ not-true _ (c .if2 .taken))
 
 other-accounts-are-clear-requires : tie.Need-other-accounts-are-clear-requires
 other-accounts-are-clear-requires c κs = fair maxPlaces _ (sym (c .before .before .before .before .before .before .check-table .ensures) ∙ ap verdictOf (c .before .before .before .before .enum-told2 .given .1)) .count-most
 
 returns-3 : tie.Need-returns-3
-unfolding sound accountsSound
+unfolding sound
 returns-3 c = rw (← c .before .before .check-table .ensures, c .enum-told .given .1)
 
 returns-4 : tie.Need-returns-4
-unfolding sound accountsSound
+unfolding sound
 returns-4 c =
-    let s = (c .before .before .before .before .before .before .before .before .before .before) .args .self in
-    let n = s .table .count in
-    c .other-accounts-are-clear .ensures
-    ∙ rw (← c .before .before .before .before .before .before .before .check-table .ensures, c .before .before .before .before .before .enum-told2 .given .1, le-leb _ _ (c .before .before .before .if1 .left))
-    (and-both-true (every backlogFits (take n (s .accounts))) (upTo n (creditsHold (s .table .requestors) (s .accounts))) (every accountClear (drop n (s .accounts)))
-    (sym (c .before .before .accounts-hold .ensures) ∙ not-false _ (c .before .if2 .left)))
+    rw (← c .before .before .before .before .before .before .before .check-table .ensures, c .before .before .before .before .before .enum-told2 .given .1, le-leb _ _ (c .before .before .before .if1 .left), sym (c .before .before .accounts-hold .ensures) ∙ not-false _ (c .before .if2 .left))
+    (c .other-accounts-are-clear .ensures)
 
 pub is-sound-spec : {M : Type 1} → statement M
 is-sound-spec =
