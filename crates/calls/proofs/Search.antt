@@ -18,7 +18,7 @@ use Rattle.arbiter.specs.State.{noAccount, accountAt}
 use Rattle.arbiter.specs.Table.{requestorAt, noRequestor}
 use Rattle.calls.specs.declared.slot.Grant.{Grant}
 use Rattle.calls.specs.declared.slot.Grant.the-variants.{Nobody, Place}
-use Rattle.calls.specs.Rule.{eligible, first, later}
+use Rattle.calls.specs.Rule.{eligible, firstEligible, later}
 use Rattle.calls.specs.Places.{names}
 
 -- past the accounts nobody is eligible
@@ -38,8 +38,8 @@ module _ (d : ℕ) where
       (λ q. let other : i ≢ p = eqb-false i p q in h i (omega arith))
 
   pub first-at : (n p : ℕ) (rs : List Requestor) (accounts : List Account) → p < n → n ≤ length rs → NoneBefore d rs accounts p
-      → eligible d (requestorAt p rs) (accountAt p accounts) ≡ true → first d (take n rs) accounts ≡ Place p
-  unfolding first later
+      → eligible d (requestorAt p rs) (accountAt p accounts) ≡ true → firstEligible d (take n rs) accounts ≡ Place p
+  unfolding firstEligible later
   first-at zero p rs accounts l k h e = absurd (not-suc-le-zero l)
   first-at (suc n) p [] accounts l k h e = absurd (not-suc-le-zero k)
   first-at (suc n) p (r ∷ rs) [] l k h e = absurd (eligible-none d (requestorAt p (r ∷ rs)) e)
@@ -47,31 +47,31 @@ module _ (d : ℕ) where
   first-at (suc n) (suc p) (r ∷ rs) (a ∷ accounts) l k h e =
       rw (h 0 (omega arith), first-at n p rs accounts (omega arith) (omega arith) (λ i j. h (suc i) (omega arith)) e)
 
-  pub first-none : (n : ℕ) (rs : List Requestor) (accounts : List Account) → NoneBefore d rs accounts n → first d (take n rs) accounts ≡ Nobody
-  unfolding first later
+  pub first-none : (n : ℕ) (rs : List Requestor) (accounts : List Account) → NoneBefore d rs accounts n → firstEligible d (take n rs) accounts ≡ Nobody
+  unfolding firstEligible later
   first-none zero rs accounts h = refl
   first-none (suc n) [] accounts h = refl
   first-none (suc n) (r ∷ rs) [] h = refl
   first-none (suc n) (r ∷ rs) (a ∷ accounts) h = rw (h 0 (omega arith), first-none n rs accounts (λ i j. h (suc i) (omega arith)))
 
-  first-eligible : (p : ℕ) (rs : List Requestor) (accounts : List Account) → first d rs accounts ≡ Place p → eligible d (requestorAt p rs) (accountAt p accounts) ≡ true
-  unfolding first later
+  first-eligible : (p : ℕ) (rs : List Requestor) (accounts : List Account) → firstEligible d rs accounts ≡ Place p → eligible d (requestorAt p rs) (accountAt p accounts) ≡ true
+  unfolding firstEligible later
   first-eligible p [] accounts e = let z : _≡_ {A = ℕ} 0 1 = cc in absurd (omega arith)
   first-eligible p (r ∷ rs) [] e = let z : _≡_ {A = ℕ} 0 1 = cc in absurd (omega arith)
   first-eligible p (r ∷ rs) (a ∷ accounts) e = cases (eligible d r a)
       (λ q. here q (rw q at e))
-      (λ q. further p (first d rs accounts) (λ i f. first-eligible i rs accounts f) refl (rw q at e))
+      (λ q. further p (firstEligible d rs accounts) (λ i f. first-eligible i rs accounts f) refl (rw q at e))
     where
       here : eligible d r a ≡ true → Place 0 ≡ Place p → eligible d (requestorAt p (r ∷ rs)) (accountAt p (a ∷ accounts)) ≡ true
       here q f = let z : 0 ≡ p = cc in rw (← z) q
 
-      further : (p : ℕ) (g : Grant) → ((i : ℕ) → first d rs accounts ≡ Place i → eligible d (requestorAt i rs) (accountAt i accounts) ≡ true)
-          → first d rs accounts ≡ g → later g ≡ Place p → eligible d (requestorAt p (r ∷ rs)) (accountAt p (a ∷ accounts)) ≡ true
+      further : (p : ℕ) (g : Grant) → ((i : ℕ) → firstEligible d rs accounts ≡ Place i → eligible d (requestorAt i rs) (accountAt i accounts) ≡ true)
+          → firstEligible d rs accounts ≡ g → later g ≡ Place p → eligible d (requestorAt p (r ∷ rs)) (accountAt p (a ∷ accounts)) ≡ true
       further p Nobody rest f e = let z : _≡_ {A = ℕ} 0 1 = cc in absurd (omega arith)
       further p (Place i) rest f e = let z : suc i ≡ p = cc in rw (← z) (rest i f)
 
   -- the place that a grant names is eligible
-  pub named-eligible : (n p : ℕ) (rs : List Requestor) (accounts : List Account) (g : Grant) → p < n → g ≡ first d (take n rs) accounts → names g p ≡ true
+  pub named-eligible : (n p : ℕ) (rs : List Requestor) (accounts : List Account) (g : Grant) → p < n → g ≡ firstEligible d (take n rs) accounts → names g p ≡ true
       → eligible d (requestorAt p rs) (accountAt p accounts) ≡ true
   named-eligible n p rs accounts Nobody h e q = true-false (sym q)
   named-eligible n p rs accounts (Place i) h e q =

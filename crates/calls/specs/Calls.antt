@@ -19,7 +19,7 @@ use Rattle.calls.specs.declared.post.PostResult.{PostResult}
 use Rattle.calls.specs.declared.slot.SlotAnswer.{SlotAnswer}
 use Rattle.calls.specs.declared.slot.SlotAnswer.the-variants as slot-answer
 use Rattle.calls.specs.declared.slot.SlotResult.{SlotResult}
-use Rattle.calls.specs.Rule.{first, after}
+use Rattle.calls.specs.Rule.{firstEligible, after}
 
 pub data Call : Type 0 where
   post : (place count : ℕ) → Call
@@ -27,7 +27,7 @@ pub data Call : Type 0 where
 
 -- whom a slot grants
 unfoldable pub grantOf : Arbiter → Grant
-grantOf s = first (s .table .denominator) (requestorsOf (s .table)) (s .accounts)
+grantOf s = firstEligible (s .table .denominator) (requestorsOf (s .table)) (s .accounts)
 
 -- the state after a slot that granted g: every account, and 5. "the slot number rises by 1"
 unfoldable pub advanced : Arbiter → Grant → Arbiter

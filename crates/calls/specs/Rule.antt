@@ -21,10 +21,10 @@ later Nobody = Nobody
 later (Place p) = Place (suc p)
 
 -- "The places are tried from 0 upward, and the search stops at the first eligible one. It is granted."
-unfoldable pub first : ℕ → List Requestor → List Account → Grant
-first d [] accounts = Nobody
-first d (r ∷ rs) [] = Nobody
-first d (r ∷ rs) (a ∷ accounts) = pick (eligible d r a) (Place 0) (later (first d rs accounts))
+unfoldable pub firstEligible : ℕ → List Requestor → List Account → Grant
+firstEligible d [] accounts = Nobody
+firstEligible d (r ∷ rs) [] = Nobody
+firstEligible d (r ∷ rs) (a ∷ accounts) = pick (eligible d r a) (Place 0) (later (firstEligible d rs accounts))
 
 -- 2. "The granted place: q falls by 1, c becomes c + n − D."
 unfoldable pub served : ℕ → Requestor → Account → Account
@@ -45,7 +45,3 @@ after d g (r ∷ rs) [] = []
 after d Nobody (r ∷ rs) (a ∷ accounts) = passed r a ∷ after d Nobody rs accounts
 after d (Place zero) (r ∷ rs) (a ∷ accounts) = served d r a ∷ after d Nobody rs accounts
 after d (Place (suc p)) (r ∷ rs) (a ∷ accounts) = passed r a ∷ after d (Place p) rs accounts
-
--- every account after a slot
-unfoldable pub slotted : ℕ → List Requestor → List Account → List Account
-slotted d rs accounts = after d (first d rs accounts) rs accounts

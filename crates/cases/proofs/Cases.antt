@@ -8,7 +8,7 @@ use Rattle.arbiter.specs.Table.{rowVerdict, eachPlace, tableVerdict}
 use Rattle.arbiter.specs.Figures.{roundedUp, finish, needVerdict, admissionVerdict}
 use Rattle.arbiter.specs.State.{accountsSound, sound}
 use Rattle.arbiter.specs.Start.{opening, noTable, noState, startVerdict, start}
-use Rattle.calls.specs.Rule.{eligible, later, first, served, passed, after}
+use Rattle.calls.specs.Rule.{eligible, later, firstEligible, served, passed, after}
 use Rattle.calls.specs.Calls.{grantOf, advanced, more, filled, done, ruleVerdict, called}
 use Rattle.guarantees.specs.Counts.{toPlace}
 use Rattle.cases.specs.Rows.{padded, tableOf, reply, Row}
@@ -19,5 +19,5 @@ abbrev rows : List Row
 rows = benchRows ++ edgeRows
 
 all-pass : map (λ r. reply (r .asked)) rows ≡ map (λ r. r .written) rows
-unfolding total every upTo Runs.end Runs.answers gate then rowVerdict eachPlace tableVerdict roundedUp finish needVerdict admissionVerdict accountsSound sound opening noTable noState startVerdict start eligible later first served passed after grantOf advanced more filled done ruleVerdict called toPlace padded tableOf reply tableT tableTShort tableRates tableBurst tableDenominator tableFive tableLate threeEach lateCalls benchRows stateOf tablePastTwo tablePastLast tableLargest edgeRows
+unfolding total every upTo Runs.end Runs.answers gate then rowVerdict eachPlace tableVerdict roundedUp finish needVerdict admissionVerdict accountsSound sound opening noTable noState startVerdict start eligible later firstEligible served passed after grantOf advanced more filled done ruleVerdict called toPlace padded tableOf reply tableT tableTShort tableRates tableBurst tableDenominator tableFive tableLate threeEach lateCalls benchRows stateOf tablePastTwo tablePastLast tableLargest edgeRows
 all-pass = refl

@@ -12,8 +12,8 @@ use Rattle.arbiter.specs.declared.state.Arbiter.{Arbiter}
 use Rattle.arbiter.specs.Table.{rate, burst, requestorsOf}
 use Rattle.arbiter.specs.State.{credit}
 use Rattle.arbiter.proofs.Sound.{Sound}
-use Rattle.calls.specs.Rule.{slotted}
 use Rattle.calls.specs.Calls.{Call, grantOf, advanced, ruled}
+use Rattle.guarantees.proofs.Head.{slotted}
 use Rattle.guarantees.specs.Counts.{slotsIn, grantsToFirst}
 use Rattle.guarantees.specs.Demand3.{Ceiling}
 use Rattle.guarantees.proofs.Grants.{slotIn, grantToFirst, slot-in, grant-to-first}

@@ -12,8 +12,8 @@ use Rattle.arbiter.specs.Table.{requestorsOf}
 use Rattle.arbiter.specs.State.{backlog, accountAt}
 use Rattle.arbiter.specs.Start.{opening}
 use Rattle.arbiter.proofs.Sound.{Sound, opening-backlog}
-use Rattle.calls.specs.Rule.{slotted}
 use Rattle.calls.specs.Calls.{Call, post, slot, grantOf, advanced, ruled}
+use Rattle.guarantees.proofs.Head.{slotted}
 use Rattle.guarantees.specs.Counts.{grantsTo}
 use Rattle.guarantees.specs.Conservation.{brought, broughtTo, Conservation}
 use Rattle.guarantees.proofs.Grants.{grantTo, grant-to}

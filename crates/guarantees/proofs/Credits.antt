@@ -12,11 +12,11 @@ use Rattle.arbiter.specs.declared.state.Account.{Account}
 use Rattle.arbiter.specs.Table.{rate, burst, requestorAt}
 use Rattle.arbiter.specs.State.{credit, backlog, accountAt}
 use Rattle.calls.specs.declared.slot.Grant.the-variants.{Nobody}
-use Rattle.calls.specs.Rule.{first, served, after, slotted}
+use Rattle.calls.specs.Rule.{firstEligible, served, after}
 use Rattle.calls.proofs.Accounts.{passed-most, passed-within}
+use Rattle.guarantees.proofs.Head.{slotted, by-head, slotted-no-place, slotted-no-account, first-no-place, first-no-account}
 use Rattle.guarantees.specs.Counts.{toFirst}
 use Rattle.guarantees.proofs.Grants.{to-first-zero, to-first-one}
-use Rattle.guarantees.proofs.Head.{by-head, slotted-no-place, slotted-no-account, first-no-place, first-no-account}
 
 -- a place that waits has a burst for one transfer
 abbrev pub Roomy : ℕ → List Requestor → List Account → Type 0
@@ -31,9 +31,9 @@ after-idle-rise d (suc k) (r ∷ rs) [] = omega arith
 after-idle-rise d (suc k) (r ∷ rs) (a ∷ accounts) = omega (arith, passed-most r a, after-idle-rise d k rs accounts)
 
 pub slotted-rise : (d k : ℕ) (rs : List Requestor) (accounts : List Account)
-    → total credit (take k (slotted d rs accounts)) + d * toFirst k (first d rs accounts) ≤ total credit (take k accounts) + total rate (take k rs)
+    → total credit (take k (slotted d rs accounts)) + d * toFirst k (firstEligible d rs accounts) ≤ total credit (take k accounts) + total rate (take k rs)
 unfolding total served toFirst
-slotted-rise d zero rs accounts = rw (to-first-zero (first d rs accounts)) (omega arith)
+slotted-rise d zero rs accounts = rw (to-first-zero (firstEligible d rs accounts)) (omega arith)
 slotted-rise d (suc k) [] accounts = rw (first-no-place d accounts, slotted-no-place d accounts) (omega arith)
 slotted-rise d (suc k) (r ∷ rs) [] = rw (first-no-account d r rs, slotted-no-account d r rs) (omega arith)
 slotted-rise d (suc k) (r ∷ rs) (a ∷ accounts) = by-head d r rs a accounts
@@ -41,7 +41,7 @@ slotted-rise d (suc k) (r ∷ rs) (a ∷ accounts) = by-head d r rs a accounts
     (λ n. rw (n .slotted-is, n .to-first-is k) (omega (arith, passed-most r a, slotted-rise d k rs accounts)))
 
 -- where none of them is granted, each is left with at most its burst
-pub slotted-within : (d k : ℕ) (rs : List Requestor) (accounts : List Account) → k ≤ length rs → Roomy d rs accounts → toFirst k (first d rs accounts) ≡ 0
+pub slotted-within : (d k : ℕ) (rs : List Requestor) (accounts : List Account) → k ≤ length rs → Roomy d rs accounts → toFirst k (firstEligible d rs accounts) ≡ 0
     → total credit (take k (slotted d rs accounts)) ≤ total burst (take k rs)
 unfolding total
 slotted-within d zero rs accounts h roomy z = omega arith
@@ -57,7 +57,7 @@ slotted-within d (suc k) (r ∷ rs) (a ∷ accounts) h roomy z = by-head d r rs 
 
 pub slotted-kept : (d k : ℕ) (rs : List Requestor) (accounts : List Account) → k ≤ length rs → Roomy d rs accounts → total rate (take k rs) ≤ d
     → total credit (take k accounts) ≤ total burst (take k rs) → total credit (take k (slotted d rs accounts)) ≤ total burst (take k rs)
-slotted-kept d k rs accounts h roomy rated held = elim (ℕ-discrete (toFirst k (first d rs accounts)) 0) [
+slotted-kept d k rs accounts h roomy rated held = elim (ℕ-discrete (toFirst k (firstEligible d rs accounts)) 0) [
   | yes z ↦ slotted-within d k rs accounts h roomy z
-  | no z ↦ omega (arith, rw (to-first-one k (first d rs accounts) z) at (slotted-rise d k rs accounts))
+  | no z ↦ omega (arith, rw (to-first-one k (firstEligible d rs accounts) z) at (slotted-rise d k rs accounts))
 ]

@@ -12,25 +12,29 @@ use Rattle.arbiter.specs.State.{backlog}
 use Rattle.calls.specs.declared.slot.Grant.{Grant}
 use Rattle.calls.specs.declared.slot.Grant.the-variants.{Nobody, Place}
 use Rattle.calls.proofs.Accounts.{eligible-true, eligible-false}
-use Rattle.calls.specs.Rule.{eligible, later, first, served, passed, after, slotted}
+use Rattle.calls.specs.Rule.{eligible, later, firstEligible, served, passed, after}
 use Rattle.guarantees.specs.Counts.{toPlace, toFirst}
 use Rattle.guarantees.proofs.Grants.{to-first-later, to-place-later-zero, to-place-later}
+
+-- the accounts after a slot: the search, and what it makes of them
+unfoldable pub slotted : ℕ → List Requestor → List Account → List Account
+slotted d rs accounts = after d (firstEligible d rs accounts) rs accounts
 
 module _ (d : ℕ) (r : Requestor) (rs : List Requestor) (a : Account) (accounts : List Account) where
   pub record Granted : Type 0 where
     pub waiting : 0 < backlog a
     pub enough : d ≤ a .credit + r .rate
     pub slotted-is : slotted d (r ∷ rs) (a ∷ accounts) ≡ served d r a ∷ after d Nobody rs accounts
-    pub to-first-is : (k : ℕ) → toFirst (suc k) (first d (r ∷ rs) (a ∷ accounts)) ≡ 1
-    pub to-head-is : toPlace 0 (first d (r ∷ rs) (a ∷ accounts)) ≡ 1
-    pub to-tail-is : (p : ℕ) → toPlace (suc p) (first d (r ∷ rs) (a ∷ accounts)) ≡ 0
+    pub to-first-is : (k : ℕ) → toFirst (suc k) (firstEligible d (r ∷ rs) (a ∷ accounts)) ≡ 1
+    pub to-head-is : toPlace 0 (firstEligible d (r ∷ rs) (a ∷ accounts)) ≡ 1
+    pub to-tail-is : (p : ℕ) → toPlace (suc p) (firstEligible d (r ∷ rs) (a ∷ accounts)) ≡ 0
 
   pub record Passed : Type 0 where
     pub short : 0 < backlog a → a .credit + r .rate < d
     pub slotted-is : slotted d (r ∷ rs) (a ∷ accounts) ≡ passed r a ∷ slotted d rs accounts
-    pub to-first-is : (k : ℕ) → toFirst (suc k) (first d (r ∷ rs) (a ∷ accounts)) ≡ toFirst k (first d rs accounts)
-    pub to-head-is : toPlace 0 (first d (r ∷ rs) (a ∷ accounts)) ≡ 0
-    pub to-tail-is : (p : ℕ) → toPlace (suc p) (first d (r ∷ rs) (a ∷ accounts)) ≡ toPlace p (first d rs accounts)
+    pub to-first-is : (k : ℕ) → toFirst (suc k) (firstEligible d (r ∷ rs) (a ∷ accounts)) ≡ toFirst k (firstEligible d rs accounts)
+    pub to-head-is : toPlace 0 (firstEligible d (r ∷ rs) (a ∷ accounts)) ≡ 0
+    pub to-tail-is : (p : ℕ) → toPlace (suc p) (firstEligible d (r ∷ rs) (a ∷ accounts)) ≡ toPlace p (firstEligible d rs accounts)
 
   pub after-later : (g : Grant) → after d (later g) (r ∷ rs) (a ∷ accounts) ≡ passed r a ∷ after d g rs accounts
   unfolding after later
@@ -38,7 +42,7 @@ module _ (d : ℕ) (r : Requestor) (rs : List Requestor) (a : Account) (accounts
   after-later (Place p) = refl
 
   pub head-granted : eligible d r a ≡ true → Granted
-  unfolding slotted first after toFirst toPlace
+  unfolding slotted firstEligible after toFirst toPlace
   head-granted e = record {
     waiting = eligible-true r a d e .0;
     enough = eligible-true r a d e .1;
@@ -49,13 +53,13 @@ module _ (d : ℕ) (r : Requestor) (rs : List Requestor) (a : Account) (accounts
   }
 
   pub head-passed : eligible d r a ≡ false → Passed
-  unfolding slotted first
+  unfolding slotted firstEligible
   head-passed e = record {
     short = eligible-false r a d e;
-    slotted-is = rw e (after-later (first d rs accounts));
-    to-first-is = λ k. rw e (to-first-later k (first d rs accounts));
-    to-head-is = rw e (to-place-later-zero (first d rs accounts));
-    to-tail-is = λ p. rw e (to-place-later p (first d rs accounts));
+    slotted-is = rw e (after-later (firstEligible d rs accounts));
+    to-first-is = λ k. rw e (to-first-later k (firstEligible d rs accounts));
+    to-head-is = rw e (to-place-later-zero (firstEligible d rs accounts));
+    to-tail-is = λ p. rw e (to-place-later p (firstEligible d rs accounts));
   }
 
   pub by-head {ℓ} : {X : Type ℓ} → (Granted → X) → (Passed → X) → X
@@ -63,17 +67,17 @@ module _ (d : ℕ) (r : Requestor) (rs : List Requestor) (a : Account) (accounts
 
 -- with no requestor, or no account, nothing happens
 pub slotted-no-place : (d : ℕ) (accounts : List Account) → slotted d [] accounts ≡ accounts
-unfolding slotted first after
+unfolding slotted firstEligible after
 slotted-no-place d accounts = refl
 
 pub slotted-no-account : (d : ℕ) (r : Requestor) (rs : List Requestor) → slotted d (r ∷ rs) [] ≡ []
-unfolding slotted first after
+unfolding slotted firstEligible after
 slotted-no-account d r rs = refl
 
-pub first-no-place : (d : ℕ) (accounts : List Account) → first d [] accounts ≡ Nobody
-unfolding first
+pub first-no-place : (d : ℕ) (accounts : List Account) → firstEligible d [] accounts ≡ Nobody
+unfolding firstEligible
 first-no-place d accounts = refl
 
-pub first-no-account : (d : ℕ) (r : Requestor) (rs : List Requestor) → first d (r ∷ rs) [] ≡ Nobody
-unfolding first
+pub first-no-account : (d : ℕ) (r : Requestor) (rs : List Requestor) → firstEligible d (r ∷ rs) [] ≡ Nobody
+unfolding firstEligible
 first-no-account d r rs = refl

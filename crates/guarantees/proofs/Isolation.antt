@@ -22,7 +22,7 @@ use Rattle.arbiter.specs.State.{noAccount}
 use Rattle.arbiter.proofs.Sound.{Sound}
 use Rattle.calls.specs.declared.slot.Grant.{Grant}
 use Rattle.calls.specs.declared.slot.Grant.the-variants.{Nobody, Place}
-use Rattle.calls.specs.Rule.{eligible, later, first, served, passed, after}
+use Rattle.calls.specs.Rule.{eligible, later, firstEligible, served, passed, after}
 use Rattle.calls.specs.Calls.{Call, post, slot, grantOf, advanced, filled, slotAnswer, done, ruleVerdict, outcome, ruled, called}
 use Rattle.guarantees.specs.Counts.{opened}
 use Rattle.guarantees.specs.Isolation.{Isolation, concerns, concerning, view, Shown, shows, shown}
@@ -59,14 +59,14 @@ view-seen m stamp (Place p) = cases (ltb p m) (λ e. rw (e, e)) (λ e. rw e)
 -- ---- the rule of a slot on the first m accounts: a requestor with no account is never granted, so the table stays whole
 
 module _ (d : ℕ) where
-  first-of-none : (rs : List Requestor) → first d rs [] ≡ Nobody
-  unfolding first
+  first-of-none : (rs : List Requestor) → firstEligible d rs [] ≡ Nobody
+  unfolding firstEligible
   first-of-none [] = refl
   first-of-none (r ∷ rs) = refl
 
-  first-take : (m : ℕ) (rs : List Requestor) (accounts : List Account) → first d rs (take m accounts) ≡ seen m (first d rs accounts)
-  unfolding first seen
-  first-take zero rs accounts = first-of-none rs ∙ sym (seen-by-none (first d rs accounts))
+  first-take : (m : ℕ) (rs : List Requestor) (accounts : List Account) → firstEligible d rs (take m accounts) ≡ seen m (firstEligible d rs accounts)
+  unfolding firstEligible seen
+  first-take zero rs accounts = first-of-none rs ∙ sym (seen-by-none (firstEligible d rs accounts))
   first-take (suc m) [] accounts = refl
   first-take (suc m) (r ∷ rs) [] = refl
   first-take (suc m) (r ∷ rs) (a ∷ accounts) = cases (eligible d r a)

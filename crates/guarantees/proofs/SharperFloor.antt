@@ -16,8 +16,9 @@ use Rattle.arbiter.specs.Table.{rate, requestorsOf, requestorAt}
 use Rattle.arbiter.specs.Figures.{burstsAbove, ratesAbove, rateLeft}
 use Rattle.arbiter.specs.State.{credit, backlog, accountAt}
 use Rattle.arbiter.proofs.Sound.{Sound, rates-most, sound-fair}
-use Rattle.calls.specs.Rule.{first, slotted}
+use Rattle.calls.specs.Rule.{firstEligible}
 use Rattle.calls.specs.Calls.{Call, grantOf, advanced, ruled}
+use Rattle.guarantees.proofs.Head.{slotted}
 use Rattle.guarantees.specs.Counts.{toPlace, slotsIn, grantsTo, Waits}
 use Rattle.guarantees.specs.SharperFloor.{Sharp, Sharper, Sharper-floor}
 use Rattle.guarantees.proofs.Grants.{slotIn, grantTo, WaitsAt, slot-in, grant-to, slot-meets}
@@ -79,11 +80,11 @@ Kept limit T p c₀ t g s = (s .table ≡ T) × Sound limit s × At T p c₀ t g
 module _ (T : Table) (p c₀ t g : ℕ) (place : p < T .count) where
   at-slot : (accounts : List Account) → length (requestorsOf T) ≡ T .count → ratesAbove p (requestorsOf T) ≤ T .denominator
       → Roomy (T .denominator) (requestorsOf T) accounts → 0 < backlog (accountAt p accounts) → At T p c₀ t g accounts
-      → At T p c₀ (1 + t) (toPlace p (first (T .denominator) (requestorsOf T) accounts) + g) (slotted (T .denominator) (requestorsOf T) accounts)
+      → At T p c₀ (1 + t) (toPlace p (firstEligible (T .denominator) (requestorsOf T) accounts) + g) (slotted (T .denominator) (requestorsOf T) accounts)
   at-slot accounts count rated roomy waits v = go (turn (T .denominator) p (requestorsOf T) accounts (omega arith) waits)
     where
       go : Turn (T .denominator) p (requestorsOf T) accounts
-          → At T p c₀ (1 + t) (toPlace p (first (T .denominator) (requestorsOf T) accounts) + g) (slotted (T .denominator) (requestorsOf T) accounts)
+          → At T p c₀ (1 + t) (toPlace p (firstEligible (T .denominator) (requestorsOf T) accounts) + g) (slotted (T .denominator) (requestorsOf T) accounts)
       go (above a x c) = rw (x, zero-add g)
           (held-above _ _ _ _ c₀ t g _ _ _ _ (omega (arith, rw a at (slotted-rise (T .denominator) p (requestorsOf T) accounts))) c v)
       go (own a x c) = rw x

@@ -10,9 +10,9 @@ use Rattle.arbiter.specs.declared.state.Account.{Account}
 use Rattle.arbiter.specs.State.{backlog, accountAt}
 use Rattle.calls.specs.declared.slot.Grant.{Grant}
 use Rattle.calls.specs.declared.slot.Grant.the-variants.{Nobody, Place}
-use Rattle.calls.specs.Rule.{first, served, passed, after, slotted}
+use Rattle.calls.specs.Rule.{firstEligible, served, passed, after}
+use Rattle.guarantees.proofs.Head.{slotted, by-head, slotted-no-place, slotted-no-account, first-no-place, first-no-account}
 use Rattle.guarantees.specs.Counts.{toPlace}
-use Rattle.guarantees.proofs.Head.{by-head, slotted-no-place, slotted-no-account, first-no-place, first-no-account}
 
 pub after-length : (d : ℕ) (g : Grant) (rs : List Requestor) (accounts : List Account) → length (after d g rs accounts) ≡ length accounts
 unfolding after
@@ -39,7 +39,7 @@ after-idle-backlog d (suc p) (r ∷ rs) (a ∷ accounts) = after-idle-backlog d 
 
 -- a slot takes from a backlog what it grants
 pub slotted-backlog : (d p : ℕ) (rs : List Requestor) (accounts : List Account)
-    → toPlace p (first d rs accounts) + backlog (accountAt p (slotted d rs accounts)) ≡ backlog (accountAt p accounts)
+    → toPlace p (firstEligible d rs accounts) + backlog (accountAt p (slotted d rs accounts)) ≡ backlog (accountAt p accounts)
 unfolding toPlace served passed
 slotted-backlog d p [] accounts = rw (first-no-place d accounts, slotted-no-place d accounts) (omega arith)
 slotted-backlog d p (r ∷ rs) [] = rw (first-no-account d r rs, slotted-no-account d r rs)

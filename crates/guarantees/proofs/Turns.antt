@@ -10,18 +10,18 @@ use Rattle.arbiter.specs.declared.state.Account.{Account}
 use Rattle.arbiter.specs.State.{credit, backlog, accountAt}
 use Rattle.arbiter.specs.Table.{requestorAt}
 use Rattle.calls.specs.declared.slot.Grant.the-variants.{Nobody}
-use Rattle.calls.specs.Rule.{first, served, after, slotted}
+use Rattle.calls.specs.Rule.{firstEligible, served, after}
 use Rattle.calls.proofs.Accounts.{passed-waiting}
+use Rattle.guarantees.proofs.Head.{slotted, Passed, by-head}
 use Rattle.guarantees.specs.Counts.{toPlace, toFirst}
 use Rattle.guarantees.proofs.Grants.{to-first-zero}
-use Rattle.guarantees.proofs.Head.{Passed, by-head}
 
 pub data Turn (d p : ℕ) (rs : List Requestor) (accounts : List Account) : Type 0 where
-  above : toFirst p (first d rs accounts) ≡ 1 → toPlace p (first d rs accounts) ≡ 0
+  above : toFirst p (firstEligible d rs accounts) ≡ 1 → toPlace p (firstEligible d rs accounts) ≡ 0
       → credit (accountAt p (slotted d rs accounts)) ≡ credit (accountAt p accounts) + requestorAt p rs .rate → Turn d p rs accounts
-  own : toFirst p (first d rs accounts) ≡ 0 → toPlace p (first d rs accounts) ≡ 1
+  own : toFirst p (firstEligible d rs accounts) ≡ 0 → toPlace p (firstEligible d rs accounts) ≡ 1
       → credit (accountAt p (slotted d rs accounts)) + d ≡ credit (accountAt p accounts) + requestorAt p rs .rate → Turn d p rs accounts
-  short : toFirst p (first d rs accounts) ≡ 0 → toPlace p (first d rs accounts) ≡ 0
+  short : toFirst p (firstEligible d rs accounts) ≡ 0 → toPlace p (firstEligible d rs accounts) ≡ 0
       → credit (accountAt p accounts) + requestorAt p rs .rate < d
       → credit (accountAt p (slotted d rs accounts)) ≡ credit (accountAt p accounts) + requestorAt p rs .rate → Turn d p rs accounts
 
@@ -38,8 +38,8 @@ unfolding served
 turn d p [] accounts h waits = absurd (not-suc-le-zero h)
 turn d p (r ∷ rs) [] h waits = absurd (not-suc-le-zero waits)
 turn d zero (r ∷ rs) (a ∷ accounts) h waits = by-head d r rs a accounts
-    (λ y. own (to-first-zero (first d (r ∷ rs) (a ∷ accounts))) (y .to-head-is) (rw (y .slotted-is) (omega (arith, y .enough))))
-    (λ n. short (to-first-zero (first d (r ∷ rs) (a ∷ accounts))) (n .to-head-is) (n .short waits) (rw (n .slotted-is) (ap credit (passed-waiting r a waits))))
+    (λ y. own (to-first-zero (firstEligible d (r ∷ rs) (a ∷ accounts))) (y .to-head-is) (rw (y .slotted-is) (omega (arith, y .enough))))
+    (λ n. short (to-first-zero (firstEligible d (r ∷ rs) (a ∷ accounts))) (n .to-head-is) (n .short waits) (rw (n .slotted-is) (ap credit (passed-waiting r a waits))))
 turn d (suc p) (r ∷ rs) (a ∷ accounts) h waits = by-head d r rs a accounts
     (λ y. above (y .to-first-is p) (y .to-tail-is p) (rw (y .slotted-is) (after-idle-credit d p rs accounts (omega arith) waits)))
     (λ n. further n (turn d p rs accounts (omega arith) waits))
