@@ -8,28 +8,39 @@ use native.Mathlib.Omega.{arith}
 use borrow.Author.Tests.{ltb-true, ltb-false, lt-ltb}
 use lib.Dec.{ltb, leb·suc-suc, leb·suc-zero}
 use lib.ListN.{take}
-use lib.Seq.{take-take, getD-take, take-set-le, take-set-lt}
+use lib.Seq.{getD-set-other, take-take, getD-take, take-set-le, take-set-lt}
 use Rattle.lists.specs.Choices.{pick, cases}
 use Rattle.lists.specs.Runs.{Result}
 use Rattle.lists.proofs.Tests.{true-false}
 use Rattle.arbiter.specs.declared.table.Requestor.{Requestor}
 use Rattle.arbiter.specs.declared.state.Account.{Account}
 use Rattle.arbiter.specs.declared.state.Arbiter.{Arbiter}
-use Rattle.arbiter.specs.Refusals.{Verdict, faultless, fault}
+use Rattle.arbiter.specs.Refusals.{Verdict, faultless, fault, refusal, gate}
 use Rattle.arbiter.specs.Answers.{Answer}
 use Rattle.arbiter.specs.Table.{requestorsOf}
-use Rattle.arbiter.specs.State.{noAccount}
+use Rattle.arbiter.specs.State.{noAccount, accountAt, sound}
 use Rattle.arbiter.proofs.Sound.{Sound}
 use Rattle.calls.specs.declared.slot.Grant.{Grant}
 use Rattle.calls.specs.declared.slot.Grant.the-variants.{Nobody, Place}
 use Rattle.calls.specs.Rule.{eligible, later, firstEligible, served, passed, after}
 use Rattle.calls.specs.Calls.{Call, post, slot, grantOf, advanced, filled, slotAnswer, done, ruleVerdict, outcome, ruled, called}
-use Rattle.guarantees.specs.Counts.{opened}
-use Rattle.guarantees.specs.Isolation.{Isolation, concerns, concerning, view, Shown, shows, shown}
+use Rattle.guarantees.specs.Counts.{startState}
+use Rattle.guarantees.specs.Isolation.{Isolation, Post-apart, concerns, concerning, view, Shown, shows, shown}
 use Rattle.guarantees.proofs.Head.{after-later}
 use Rattle.guarantees.proofs.Step.{by-kind}
 use Rattle.guarantees.proofs.Sound.{sound-next, call-ruled}
-use Rattle.guarantees.proofs.Start.{opened-sound}
+use Rattle.guarantees.proofs.Start.{start-state-sound}
+
+-- ---- one post
+
+post-outcome : (v : Verdict) (s : Arbiter) (p count i : ℕ) → (i ≡ p → ⊥) → accountAt i (outcome v s (post p count) .state .accounts) ≡ accountAt i (s .accounts)
+unfolding done filled
+post-outcome faultless s p count i apart = getD-set-other (s .accounts) p i _ noAccount apart
+post-outcome (fault r) s p count i apart = refl
+
+pub post-apart : Post-apart
+unfolding called
+post-apart limit s p count i apart = post-outcome (gate (refusal 23) (sound limit s) (ruleVerdict s (post p count))) s p count i apart
 
 -- ---- a grant as the first m places see it
 
@@ -180,4 +191,4 @@ module _ (limit : ℕ) where
   shown-apart s v m calls others q = shown-same m s v calls ∙ shown-ruled-apart m s s calls others refl q ∙ sym (shown-same m s v others)
 
 pub isolation : Isolation
-isolation limit t first ok k = shown-apart limit (opened limit t first) (opened-sound limit t first ok) (suc k)
+isolation limit t first ok k = shown-apart limit (startState limit t first) (start-state-sound limit t first ok) (suc k)

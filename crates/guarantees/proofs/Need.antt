@@ -19,7 +19,7 @@ use Rattle.arbiter.specs.State.{backlog, accountAt}
 use Rattle.arbiter.proofs.Checks.{fair}
 use Rattle.arbiter.proofs.Sound.{Sound, places-length, row-at, sound-fair, start-admitted}
 use Rattle.calls.specs.Calls.{Call, ruled}
-use Rattle.guarantees.specs.Counts.{inSlot, slotsIn, grantsTo, firstSlots, Waits}
+use Rattle.guarantees.specs.Counts.{inSlot, slotsIn, grantsTo, firstSlots, Waits, heardFrom}
 use Rattle.guarantees.specs.Need.{Pending, GrantedWithin, Need-from-sound, Need-from-start, Own-need}
 use Rattle.guarantees.proofs.Grants.{grantTo, in-any-slot}
 use Rattle.guarantees.proofs.Sound.{sound-of, sound-next, answers-ruled}
@@ -85,7 +85,7 @@ floor-enough d n R B L g j hd hn hR floor figure = elim (decLe j g) [
 
 -- T is the table that stands where the stretch begins; any number of slots from the finish figure on will do
 pub need-from : (limit : ℕ) (T : Table) (s : Arbiter) → s .table ≡ T → Sound limit s → (inside : List Call) (p j slots : ℕ)
-    → Pending limit s inside p j → finish (T .denominator) (requestorsOf T) p j ≤ slots → GrantedWithin limit s inside slots p j
+    → Pending s p j → finish (T .denominator) (requestorsOf T) p j ≤ slots → GrantedWithin slots (heardFrom limit s inside) p j
 unfolding finish
 need-from limit T s on v inside p j slots pending figure reached =
     rw (answers-ruled limit s inside v, ← first-calls-answer s inside slots) (omega (arith, go (waits-or-granted limit p j s calls v (omega arith))))

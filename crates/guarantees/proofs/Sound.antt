@@ -20,7 +20,7 @@ use Rattle.arbiter.proofs.Checks.{Fair}
 use Rattle.arbiter.proofs.Sound.{Sound, sums-past, rates-most, places-length, sound-open, sound-shut, sound-fair}
 use Rattle.calls.specs.Calls.{Call, post, slot, grantOf, advanced, more, filled, ruleVerdict, ruled, called}
 use Rattle.guarantees.proofs.Head.{slotted}
-use Rattle.guarantees.specs.Need.{Shaped}
+use Rattle.guarantees.specs.Counts.{Shaped}
 use Rattle.guarantees.proofs.Slots.{after-length, after-past, slotted-backlog}
 use Rattle.guarantees.proofs.Credits.{Roomy, slotted-kept}
 use Rattle.guarantees.proofs.Step.{by-kind, post-place, post-fits, filled-credits, filled-backlog, slot-below}

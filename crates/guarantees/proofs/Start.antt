@@ -12,7 +12,7 @@ use Rattle.arbiter.specs.Answers.{Answer, accepted, refused}
 use Rattle.arbiter.specs.Start.{opening, noState, startVerdict, start}
 use Rattle.arbiter.proofs.Sound.{Sound, start-sound}
 use Rattle.calls.specs.Calls.{Call, ruled, called}
-use Rattle.guarantees.specs.Counts.{Accepted, opened}
+use Rattle.guarantees.specs.Counts.{Accepted, startState}
 use Rattle.guarantees.proofs.Step.{table-stands}
 use Rattle.guarantees.proofs.Sound.{sound-end, end-ruled, answers-ruled}
 
@@ -31,15 +31,15 @@ module _ (limit : ℕ) (t : Table) (first : ℕ) (a : Accepted limit t first) wh
   unfolding start
   start-passes = started-open (startVerdict limit t first) (opening t first) (noState limit) (a .answer) .0
 
-  pub opened-is : opened limit t first ≡ opening t first
+  pub start-state-is : startState limit t first ≡ opening t first
   unfolding start
-  opened-is = started-open (startVerdict limit t first) (opening t first) (noState limit) (a .answer) .1
+  start-state-is = started-open (startVerdict limit t first) (opening t first) (noState limit) (a .answer) .1
 
   pub opening-sound : Sound limit (opening t first)
   opening-sound = start-sound limit t first start-passes (a .rows)
 
-  pub opened-sound : Sound limit (opened limit t first)
-  opened-sound = rw opened-is opening-sound
+  pub start-state-sound : Sound limit (startState limit t first)
+  start-state-sound = rw start-state-is opening-sound
 
   -- after any calls from it
   pub entered-sound : (calls : List Call) → Sound limit (end ruled (opening t first) calls)
@@ -49,14 +49,14 @@ module _ (limit : ℕ) (t : Table) (first : ℕ) (a : Accepted limit t first) wh
   unfolding opening
   entered-table calls = keeps ruled (λ s. s .table ≡ t) (λ s c e. table-stands s c ∙ e) (opening t first) calls refl
 
-  pub entered-ruled : (calls : List Call) → end (called limit) (opened limit t first) calls ≡ end ruled (opening t first) calls
-  entered-ruled calls = ap (λ s. end (called limit) s calls) opened-is ∙ end-ruled limit (opening t first) calls opening-sound
+  pub entered-ruled : (calls : List Call) → end (called limit) (startState limit t first) calls ≡ end ruled (opening t first) calls
+  entered-ruled calls = ap (λ s. end (called limit) s calls) start-state-is ∙ end-ruled limit (opening t first) calls opening-sound
 
-  pub answered-ruled : (calls : List Call) → answers (called limit) (opened limit t first) calls ≡ answers ruled (opening t first) calls
-  answered-ruled calls = ap (λ s. answers (called limit) s calls) opened-is ∙ answers-ruled limit (opening t first) calls opening-sound
+  pub answered-ruled : (calls : List Call) → answers (called limit) (startState limit t first) calls ≡ answers ruled (opening t first) calls
+  answered-ruled calls = ap (λ s. answers (called limit) s calls) start-state-is ∙ answers-ruled limit (opening t first) calls opening-sound
 
-  pub called-sound : (calls : List Call) → Sound limit (end (called limit) (opened limit t first) calls)
+  pub called-sound : (calls : List Call) → Sound limit (end (called limit) (startState limit t first) calls)
   called-sound calls = rw (entered-ruled calls) (entered-sound calls)
 
-  pub called-table : (calls : List Call) → end (called limit) (opened limit t first) calls .table ≡ t
+  pub called-table : (calls : List Call) → end (called limit) (startState limit t first) calls .table ≡ t
   called-table calls = rw (entered-ruled calls) (entered-table calls)

@@ -4,12 +4,11 @@ use mathlib.Core.List.{List, [], _∷_}
 use Prim.Native.Nat.{ℕ, _+_}
 use lib.Dec.{eqb}
 use Rattle.lists.specs.Choices.{pick}
-use Rattle.lists.specs.Runs
 use Rattle.arbiter.specs.declared.table.Table.{Table}
 use Rattle.arbiter.specs.Answers.{Answer, accepted, granted, idle, refused}
 use Rattle.arbiter.specs.State.{backlog, accountAt}
-use Rattle.calls.specs.Calls.{Call, post, slot, called}
-use Rattle.guarantees.specs.Counts.{grantsTo, Accepted, opened}
+use Rattle.calls.specs.Calls.{Call, post, slot}
+use Rattle.guarantees.specs.Counts.{grantsTo, Accepted, startState, stateAfter, heardFrom}
 
 -- the transfers that a call with this answer brought to place p
 unfoldable pub brought : ℕ → Call → Answer → ℕ
@@ -19,6 +18,7 @@ brought p (post i count) (granted stamp q) = 0
 brought p (post i count) (idle stamp) = 0
 brought p (post i count) (refused r) = 0
 
+-- the transfers accepted in posts to place p, along a list of calls and their answers
 unfoldable pub broughtTo : ℕ → List Call → List Answer → ℕ
 broughtTo p [] heard = 0
 broughtTo p (c ∷ cs) [] = 0
@@ -26,6 +26,6 @@ broughtTo p (c ∷ cs) (a ∷ heard) = brought p c a + broughtTo p cs heard
 
 abbrev pub Conservation : Type 0
 Conservation = (limit : ℕ) (t : Table) (first : ℕ) → Accepted limit t first → (calls : List Call) (p : ℕ)
-    → broughtTo p calls (Runs.answers (called limit) (opened limit t first) calls)
-    ≡ grantsTo p (Runs.answers (called limit) (opened limit t first) calls)
-    + backlog (accountAt p (Runs.end (called limit) (opened limit t first) calls .accounts))
+    → broughtTo p calls (heardFrom limit (startState limit t first) calls)
+    ≡ grantsTo p (heardFrom limit (startState limit t first) calls)
+    + backlog (accountAt p (stateAfter limit t first calls .accounts))

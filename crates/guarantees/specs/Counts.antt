@@ -15,7 +15,7 @@ use Rattle.arbiter.specs.State.{backlog, accountAt}
 use Rattle.arbiter.specs.Start.{start}
 use Rattle.calls.specs.declared.slot.Grant.{Grant}
 use Rattle.calls.specs.declared.slot.Grant.the-variants.{Nobody, Place}
-use Rattle.calls.specs.Calls.{Call, ruled}
+use Rattle.calls.specs.Calls.{Call, ruled, called}
 
 -- f of the grant of an accepted slot, x of any other answer
 abbrev pub inSlot {ℓ} : {X : Type ℓ} → X → (Grant → X) → Answer → X
@@ -61,6 +61,18 @@ pub record Accepted (limit : ℕ) (t : Table) (first : ℕ) : Type 0 where
   pub rows : length (t .requestors) ≡ limit
   pub answer : start limit t first .answer ≡ accepted
 
--- the state that start hands back
-abbrev pub opened : ℕ → Table → ℕ → Arbiter
-opened limit t first = start limit t first .state
+-- the state that start hands back; of an accepted start it is `opening` of the table and the first slot number
+abbrev pub startState : ℕ → Table → ℕ → Arbiter
+startState limit t first = start limit t first .state
+
+-- the state after calls from a start, and what calls on a state answer: each gets the state that the one before handed back
+abbrev pub stateAfter : ℕ → Table → ℕ → List Call → Arbiter
+stateAfter limit t first calls = Runs.end (called limit) (startState limit t first) calls
+
+abbrev pub heardFrom : ℕ → Arbiter → List Call → List Answer
+heardFrom limit s calls = Runs.answers (called limit) s calls
+
+-- the state's arrays have `limit` elements each
+pub record Shaped (limit : ℕ) (s : Arbiter) : Type 0 where
+  pub rows : length (s .table .requestors) ≡ limit
+  pub accounts : length (s .accounts) ≡ limit

@@ -6,7 +6,6 @@ use mathlib.Core.List.{List}
 use Prim.Native.Nat.{ℕ, suc, _≤_, _<_}
 use lib.ListN.{take, length}
 use Rattle.lists.specs.Sums.{total}
-use Rattle.lists.specs.Runs
 use Rattle.arbiter.specs.declared.table.Table.{Table}
 use Rattle.arbiter.specs.declared.state.Arbiter.{Arbiter}
 use Rattle.arbiter.specs.Refusals.{faultless, refusal}
@@ -15,17 +14,17 @@ use Rattle.arbiter.specs.Table.{burst, requestorsOf, tableVerdict, requestorAt}
 use Rattle.arbiter.specs.Figures.{rateLeft}
 use Rattle.arbiter.specs.State.{credit, sound}
 use Rattle.calls.specs.Calls.{Call, called}
-use Rattle.guarantees.specs.Counts.{Accepted, opened}
+use Rattle.guarantees.specs.Counts.{Accepted, stateAfter}
 
--- of a state s
-pub record Sustained (limit : ℕ) (s : Arbiter) : Type 0 where
-  pub sums : (k : ℕ) → total credit (take (suc k) (s .accounts)) ≤ total burst (take (suc k) (s .table .requestors))
+-- of a state s and the table t it was started with
+pub record Sustained (limit : ℕ) (t : Table) (s : Arbiter) : Type 0 where
+  pub same-table : s .table ≡ t
+  pub sums : (k : ℕ) → total credit (take (suc k) (s .accounts)) ≤ total burst (take (suc k) (t .requestors))
   pub passes-23 : sound limit s ≡ true
   pub never-23 : (c : Call) → called limit s c .answer ≡ refused (refusal 23) → ⊥
 
 abbrev pub Credit-sums : Type 0
-Credit-sums = (limit : ℕ) (t : Table) (first : ℕ) → Accepted limit t first → (calls : List Call)
-    → Sustained limit (Runs.end (called limit) (opened limit t first) calls)
+Credit-sums = (limit : ℕ) (t : Table) (first : ℕ) → Accepted limit t first → (calls : List Call) → Sustained limit t (stateAfter limit t first calls)
 
 -- n ≤ R, so R ≥ 1, at every place of a table that passes checks 1 to 6
 abbrev pub Rate-left : Type 0

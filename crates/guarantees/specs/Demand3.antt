@@ -1,5 +1,7 @@
 -- DEMAND 3. "Demand 3 is a single claim about a list of calls." The list starts from the state of an accepted start and holds
--- posts and slots in any order, with any places and counts, refused ones too; `before` leads to a stretch, `inside` holds it.
+-- posts and slots in any order, with any places and counts, refused ones too. "A stretch is 0 or more accepted slots that follow
+-- one another in the list, whatever posts and refused calls stand between them": `before` leads to it and `inside` holds it. A
+-- place "enters a stretch with the c it has at the beginning": where `inside` begins, since no post changes a credit.
 use mathlib.Core.Path.{_≡_}
 use mathlib.Core.List.{List}
 use Prim.Native.Nat.{ℕ, _+_, _*_, _≤_, _<_}
@@ -15,7 +17,7 @@ use Rattle.arbiter.specs.Figures.{burstsAbove, rateLeft}
 use Rattle.arbiter.specs.State.{credit, accountAt}
 use Rattle.arbiter.specs.Start.{opening}
 use Rattle.calls.specs.Calls.{Call, ruled, called}
-use Rattle.guarantees.specs.Counts.{slotsIn, grantsTo, grantsToFirst, Waits, Accepted, opened}
+use Rattle.guarantees.specs.Counts.{slotsIn, grantsTo, grantsToFirst, Waits, Accepted, startState, stateAfter, heardFrom}
 
 -- "D times the grants to the first k is at most their summed bursts plus L times their summed rates"
 abbrev pub Ceiling : ℕ → List Requestor → ℕ → ℕ → ℕ → Type 0
@@ -35,12 +37,12 @@ Floor d rs p L g = n * R * L ≤ R * d * g + n * B
     B = burstsAbove p rs
 
 module _ (limit : ℕ) (t : Table) (first : ℕ) (before inside : List Call) where
-  -- the state that enters the stretch, and the stretch's answers: each call gets the state that the one before handed back
+  -- the state that enters the stretch, and the stretch's answers
   abbrev pub entered : Arbiter
-  entered = Runs.end (called limit) (opened limit t first) before
+  entered = stateAfter limit t first before
 
   abbrev pub heard : List Answer
-  heard = Runs.answers (called limit) entered inside
+  heard = heardFrom limit entered inside
 
   -- what the rule works out from the table, the first slot number and the calls alone
   abbrev pub ruledEntered : Arbiter
@@ -49,7 +51,7 @@ module _ (limit : ℕ) (t : Table) (first : ℕ) (before inside : List Call) whe
   pub record Demand3 : Type 0 where
     -- (i) states and answers are the rule's
     pub entered-by-rule : entered ≡ ruledEntered
-    pub before-by-rule : Runs.answers (called limit) (opened limit t first) before ≡ Runs.answers ruled (opening t first) before
+    pub before-by-rule : Runs.answers (called limit) (startState limit t first) before ≡ Runs.answers ruled (opening t first) before
     pub heard-by-rule : heard ≡ Runs.answers ruled ruledEntered inside
     pub left-by-rule : Runs.end (called limit) entered inside ≡ Runs.end ruled ruledEntered inside
     -- (ii) the ceiling

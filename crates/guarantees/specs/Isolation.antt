@@ -13,10 +13,10 @@ use Rattle.arbiter.specs.declared.table.Table.{Table}
 use Rattle.arbiter.specs.declared.state.Account.{Account}
 use Rattle.arbiter.specs.declared.state.Arbiter.{Arbiter}
 use Rattle.arbiter.specs.Answers.{Answer, accepted, granted, idle, refused}
+use Rattle.arbiter.specs.State.{accountAt}
 use Rattle.calls.specs.Calls.{Call, post, slot, called}
-use Rattle.guarantees.specs.Counts.{Accepted, opened}
+use Rattle.guarantees.specs.Counts.{Accepted, startState}
 
--- the slots, and the posts to the first m places, refused ones included
 abbrev pub keep : Bool → Call → List Call → List Call
 keep true c cs = c ∷ cs
 keep false c cs = cs
@@ -25,6 +25,12 @@ unfoldable pub concerns : ℕ → Call → Bool
 concerns m (post p count) = ltb p m
 concerns m slot = true
 
+-- "A post to a place changes no grant, credit or backlog of the places above it": nor any other account than its own
+abbrev pub Post-apart : Type 0
+Post-apart = (limit : ℕ) (s : Arbiter) (p count i : ℕ) → (i ≡ p → ⊥)
+    → accountAt i (called limit s (post p count) .state .accounts) ≡ accountAt i (s .accounts)
+
+-- the slots, and the posts to the first m places, refused ones included
 unfoldable pub concerning : ℕ → List Call → List Call
 concerning m [] = []
 concerning m (c ∷ cs) = keep (concerns m c) c (concerning m cs)
@@ -60,4 +66,4 @@ shown step m s (c ∷ cs) = shows m c (step s c) (shown step m (step s c .state)
 abbrev pub Isolation : Type 0
 Isolation = (limit : ℕ) (t : Table) (first : ℕ) → Accepted limit t first → (k : ℕ) (calls others : List Call)
     → concerning (suc k) calls ≡ concerning (suc k) others
-    → shown (called limit) (suc k) (opened limit t first) calls ≡ shown (called limit) (suc k) (opened limit t first) others
+    → shown (called limit) (suc k) (startState limit t first) calls ≡ shown (called limit) (suc k) (startState limit t first) others

@@ -1,5 +1,5 @@
--- What is promised of every list of posts and slots, for general N. Each file states one theorem of document 01; its proof is
--- the file of the same name in proofs/.
+-- What is promised of every list of posts and slots, for general N. Counts has what is counted; each other file states what one
+-- paragraph of document 01 promises, and its proof is the file of the same name in proofs/.
 pub mod Counts
 pub mod Demand3
 pub mod CreditSums

@@ -1,4 +1,4 @@
--- The floor before its premise on credit is used: whatever credit c a place enters a stretch with, one of two bounds on its grants
+-- Not in document 01, and what its floor and need are proved through. The floor before its premise on credit is used: whatever credit c a place enters a stretch with, one of two bounds on its grants
 -- holds. Demand 3's floor is what both come to where c is at least D.
 use mathlib.Core.Path.{_≡_}
 use mathlib.Core.Bool.{true}
@@ -11,10 +11,9 @@ use Rattle.arbiter.specs.Table.{requestorsOf, requestorAt}
 use Rattle.arbiter.specs.Figures.{burstsAbove, rateLeft}
 use Rattle.arbiter.specs.State.{credit, accountAt, sound}
 use Rattle.calls.specs.Calls.{Call}
-use Rattle.guarantees.specs.Counts.{slotsIn, grantsTo, Waits}
-use Rattle.guarantees.specs.Need.{heardFrom, Shaped}
+use Rattle.guarantees.specs.Counts.{slotsIn, grantsTo, Waits, Shaped, heardFrom}
 
--- Either D × g is at least R × L − B, or R × D × g is more than R × (c + n × L − D) − n × B; each subtraction stands as an
+-- Either D × g is at least R × L − B, or R × D × g is at least R × (c + n × L − D + 1) − n × B; each subtraction stands as an
 -- addition on the other side.
 abbrev pub Sharp : (d n R B c L g : ℕ) → Type 0
 Sharp d n R B c L g = (R * L ≤ d * g + B) ⊎ (R * (c + n * L + 1) ≤ R * (d * g + d) + n * B)

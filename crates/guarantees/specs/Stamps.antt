@@ -4,11 +4,10 @@ use mathlib.Core.Path.{_≡_}
 use mathlib.Core.List.{List, [], _∷_}
 use Prim.Native.Nat.{ℕ, zero, suc, _+_, _<_}
 use lib.ListN.{length, getD}
-use Rattle.lists.specs.Runs
 use Rattle.arbiter.specs.declared.table.Table.{Table}
 use Rattle.arbiter.specs.Answers.{Answer, accepted, granted, idle, refused}
-use Rattle.calls.specs.Calls.{Call, called}
-use Rattle.guarantees.specs.Counts.{slotsIn, Accepted, opened}
+use Rattle.calls.specs.Calls.{Call}
+use Rattle.guarantees.specs.Counts.{slotsIn, Accepted, startState, heardFrom}
 
 -- the stamps in the answers, in order
 unfoldable pub stampsIn : List Answer → List ℕ
@@ -25,12 +24,12 @@ countedFrom first (suc n) = first ∷ countedFrom (first + 1) n
 
 abbrev pub Stamps : Type 0
 Stamps = (limit : ℕ) (t : Table) (first : ℕ) → Accepted limit t first → (calls : List Call)
-    → stampsIn (Runs.answers (called limit) (opened limit t first) calls)
-    ≡ countedFrom first (slotsIn (Runs.answers (called limit) (opened limit t first) calls))
+    → stampsIn (heardFrom limit (startState limit t first) calls)
+    ≡ countedFrom first (slotsIn (heardFrom limit (startState limit t first) calls))
 
 -- so no two accepted slots share a stamp
 abbrev pub Distinct-stamps : Type 0
 Distinct-stamps = (limit : ℕ) (t : Table) (first : ℕ) → Accepted limit t first → (calls : List Call) (i j : ℕ)
-    → i < j → j < length (stampsIn (Runs.answers (called limit) (opened limit t first) calls))
-    → getD (stampsIn (Runs.answers (called limit) (opened limit t first) calls)) i 0
-    ≡ getD (stampsIn (Runs.answers (called limit) (opened limit t first) calls)) j 0 → ⊥
+    → i < j → j < length (stampsIn (heardFrom limit (startState limit t first) calls))
+    → getD (stampsIn (heardFrom limit (startState limit t first) calls)) i 0
+    ≡ getD (stampsIn (heardFrom limit (startState limit t first) calls)) j 0 → ⊥
