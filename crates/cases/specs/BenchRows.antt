@@ -1,5 +1,7 @@
 -- Document 01, "Bench examples": the P cases 2 (as numbers), 3, 4 and 7 to 12, and the denominators of case 13. Where the paper
--- leaves a number of a table open, one is put there under which only the check in question can fail.
+-- leaves a number of a table open, one is put there under which only the check in question can fail; at D = 0 no rate passes 3.
+-- What a row shows beyond the paper's own numbers (credits and backlogs at its end) was worked out by hand.
+use mathlib.Core.Bool.{true}
 use mathlib.Core.List.{List, [], _∷_, _++_}
 use Prim.Native.Nat.{ℕ}
 use lib.ListN.{replicate}
@@ -7,7 +9,7 @@ use Rattle.arbiter.specs.declared.table.Table.{Table}
 use Rattle.arbiter.specs.Refusals.{faultless, fault, refusal, refusalAt}
 use Rattle.arbiter.specs.Answers.{accepted, granted, idle, refused}
 use Rattle.calls.specs.Calls.{Call, post, slot}
-use Rattle.cases.specs.Rows.{row, tableOf, Row, admission, run, figures, floor, found, heard, figured, sides}
+use Rattle.cases.specs.Rows.{row, tableOf, Row, admission, calling, figures, floor, standing, found, told, figured, floored}
 
 -- Table T: D=4; place 0: n=1, b=8, j=1, L=4; place 1: n=1, b=4, j=1, L=7
 unfoldable pub tableT : Table
@@ -27,7 +29,7 @@ tableBurst b = tableOf 4 1 (row 1 b 1 4 ∷ [])
 
 -- one place at this denominator
 unfoldable pub tableDenominator : ℕ → Table
-tableDenominator d = tableOf d 1 (row 1 65535 1 65536 ∷ [])
+tableDenominator d = tableOf d 1 (row 1 65536 1 65536 ∷ [])
 
 -- case 11: D=5; place 0 n=1 b=6; place 1 n=2 b=5
 unfoldable pub tableFive : Table
@@ -53,15 +55,15 @@ benchRows =
     ∷ record { asked = admission tableT; written = found faultless }
     -- 3: nine slots log 0 0 1 0 1 255 255 1 255
     ∷ record {
-      asked = run tableT 0 (threeEach ++ replicate 9 slot);
-      written = heard
+      asked = calling tableT 0 (threeEach ++ replicate 9 slot);
+      written = told accepted
           (accepted ∷ accepted ∷ granted 0 0 ∷ granted 1 0 ∷ granted 2 1 ∷ granted 3 0 ∷ granted 4 1 ∷ idle 5 ∷ idle 6 ∷ granted 7 1 ∷ idle 8 ∷ [])
-          (5 ∷ 1 ∷ []);
+          (standing 9 (5 ∷ 1 ∷ []) (0 ∷ 0 ∷ []));
     }
     -- 4: after slot 2 of case 3 the credits are 3 and 3
     ∷ record {
-      asked = run tableT 0 (threeEach ++ replicate 3 slot);
-      written = heard (accepted ∷ accepted ∷ granted 0 0 ∷ granted 1 0 ∷ granted 2 1 ∷ []) (3 ∷ 3 ∷ []);
+      asked = calling tableT 0 (threeEach ++ replicate 3 slot);
+      written = told accepted (accepted ∷ accepted ∷ granted 0 0 ∷ granted 1 0 ∷ granted 2 1 ∷ []) (standing 3 (3 ∷ 3 ∷ []) (1 ∷ 2 ∷ []));
     }
     -- 7: D=4 with rates 3 and 2 is refused 6; 3 and 1 are not
     ∷ record { asked = admission (tableRates 3 2); written = found (fault (refusal 6)) }
@@ -71,28 +73,29 @@ benchRows =
     ∷ record { asked = admission (tableBurst 4); written = found faultless }
     -- 9: backlog 65,535 takes a post of 0 and refuses a post of 1 with 21
     ∷ record {
-      asked = run tableT 0 (post 0 65535 ∷ post 0 0 ∷ post 0 1 ∷ []);
-      written = heard (accepted ∷ accepted ∷ refused (refusal 21) ∷ []) (8 ∷ 4 ∷ []);
+      asked = calling tableT 0 (post 0 65535 ∷ post 0 0 ∷ post 0 1 ∷ []);
+      written = told accepted (accepted ∷ accepted ∷ refused (refusal 21) ∷ []) (standing 0 (8 ∷ 4 ∷ []) (65535 ∷ 0 ∷ []));
     }
     -- 10: a slot numbered two to the power 62 less 1 is done; the next is refused 22
     ∷ record {
-      asked = run tableT 4611686018427387903 (slot ∷ slot ∷ []);
-      written = heard (idle 4611686018427387903 ∷ refused (refusal 22) ∷ []) (8 ∷ 4 ∷ []);
+      asked = calling tableT 4611686018427387903 (slot ∷ slot ∷ []);
+      written = told accepted (idle 4611686018427387903 ∷ refused (refusal 22) ∷ []) (standing 4611686018427387904 (8 ∷ 4 ∷ []) (0 ∷ 0 ∷ []));
     }
     -- 11: place 1's finish for one transfer is 2 + 3 = 5
     ∷ record { asked = figures tableFive 1 1; written = figured 6 4 2 5 }
-    -- 12: in slots 0 to 23 place 1 is granted 0, 3 and 7 only. The floor gives 36 against 32
+    -- 12: in slots 0 to 23 place 1 is granted 0, 3 and 7 only: three times, where the source's two-rate line would give six
     ∷ record {
-      asked = run tableLate 0 (post 1 24 ∷ lateCalls);
-      written = heard
+      asked = calling tableLate 0 (post 1 24 ∷ lateCalls);
+      written = told accepted
           (accepted
           ∷ granted 0 1 ∷ idle 1 ∷ idle 2 ∷ granted 3 1 ∷ idle 4 ∷ idle 5 ∷ idle 6 ∷ granted 7 1 ∷ idle 8 ∷ idle 9 ∷ idle 10 ∷ accepted
           ∷ granted 11 0 ∷ granted 12 0 ∷ granted 13 0 ∷ granted 14 0 ∷ granted 15 0 ∷ granted 16 0 ∷ granted 17 0 ∷ granted 18 0
           ∷ granted 19 0 ∷ granted 20 0 ∷ granted 21 0 ∷ granted 22 0 ∷ granted 23 0 ∷ [])
-          (1 ∷ 16 ∷ []);
+          (standing 24 (1 ∷ 16 ∷ []) (17 ∷ 21 ∷ []));
     }
+    -- 12: B = 40, R = 3; the floor gives 36 against 32, and applies: place 1 enters with credit 4 = D and always waits
     ∷ record { asked = figures tableLate 1 1; written = figured 40 3 14 18 }
-    ∷ record { asked = floor tableLate (post 1 24 ∷ []) lateCalls 1; written = sides 36 32 }
+    ∷ record { asked = floor tableLate (post 1 24 ∷ []) lateCalls 1; written = floored 4 true 36 32 }
     -- 13: D=65,535 passes; 0 and 65,536 are refused 1
     ∷ record { asked = admission (tableDenominator 65535); written = found faultless }
     ∷ record { asked = admission (tableDenominator 0); written = found (fault (refusal 1)) }

@@ -1,29 +1,29 @@
--- The edges of the checks and of the rule, by name.
+-- Edges of the checks and of the rule, worked out by hand.
 use mathlib.Core.List.{List, [], _∷_, _++_}
 use Prim.Native.Nat.{ℕ}
 use lib.ListN.{replicate}
 use Rattle.arbiter.specs.declared.table.Requestor.{Requestor}
 use Rattle.arbiter.specs.declared.table.Table.{Table}
-use Rattle.arbiter.specs.declared.state.Account.{Account}
-use Rattle.arbiter.specs.declared.state.Arbiter.{Arbiter}
 use Rattle.arbiter.specs.Limits.{maxPlaces}
 use Rattle.arbiter.specs.Refusals.{faultless, fault, refusal, refusalAt}
 use Rattle.arbiter.specs.Answers.{accepted, granted, idle, refused}
 use Rattle.arbiter.specs.Table.{noRequestor}
 use Rattle.arbiter.specs.State.{noAccount}
 use Rattle.calls.specs.Calls.{post, slot}
-use Rattle.cases.specs.Rows.{row, account, padded, tableOf, Row, admission, run, call, found, heard, answered}
+use Rattle.cases.specs.Rows.{row, account, tableOf, stateOf, Row, admission, calling, asking, standing, found, told, answered}
 use Rattle.cases.specs.BenchRows.{tableT, tableTShort}
 
--- a state of a table and accounts from place 0 on
-unfoldable pub stateOf : Table → ℕ → List Account → Arbiter
-stateOf t at accounts = record { table = t; slot = record { 0 = at }; accounts = padded noAccount accounts }
+-- T with this row at place 0, or at place 1
+unfoldable pub tableFirst : Requestor → Table
+tableFirst r = tableOf 4 2 (r ∷ row 1 4 1 7 ∷ [])
 
--- N = 2, with this row at place 2, and a rate of 0 at place 0
+unfoldable pub tableSecond : Requestor → Table
+tableSecond r = tableOf 4 2 (row 1 8 1 4 ∷ r ∷ [])
+
+-- N = 2 with a rate of 0 at place 0, and this row at place 2, or at place 15
 unfoldable pub tablePastTwo : Requestor → Table
 tablePastTwo r = tableOf 4 2 (row 0 8 1 4 ∷ row 1 4 1 7 ∷ r ∷ [])
 
--- the same with the row at place 15
 unfoldable pub tablePastLast : Requestor → Table
 tablePastLast r = tableOf 4 2 (row 0 8 1 4 ∷ row 1 4 1 7 ∷ replicate 13 noRequestor ++ r ∷ [])
 
@@ -31,43 +31,51 @@ tablePastLast r = tableOf 4 2 (row 0 8 1 4 ∷ row 1 4 1 7 ∷ replicate 13 noRe
 unfoldable pub tableLargest : Table
 tableLargest = tableOf maxPlaces maxPlaces (replicate maxPlaces (row 1 16777216 1 1073741824))
 
-unfoldable pub edgeRows : List Row
-edgeRows =
-    -- first slot number two to the power 62 starts, and its first slot is refused 22
-    record { asked = run tableT 4611686018427387904 (slot ∷ []); written = heard (refused (refusal 22) ∷ []) (8 ∷ 4 ∷ []) }
-    -- one past it is refused 12 and hands back a state whose every field is 0: each call on it is refused 23
-    ∷ record { asked = run tableT 4611686018427387905 (slot ∷ post 0 1 ∷ []); written = heard (refused (refusal 23) ∷ refused (refusal 23) ∷ []) (0 ∷ 0 ∷ []) }
-    -- N=1 and D=1
-    ∷ record {
-      asked = run (tableOf 1 1 (row 1 1 1 1 ∷ [])) 0 (post 0 2 ∷ slot ∷ slot ∷ slot ∷ []);
-      written = heard (accepted ∷ granted 0 0 ∷ granted 1 0 ∷ idle 2 ∷ []) (1 ∷ []);
-    }
-    -- N=0 and one more than the largest N
-    ∷ record { asked = admission (tableOf 4 0 []); written = found (fault (refusal 2)) }
+-- D=4; place 0 n=1 b=16; place 1 n=3 b=4
+unfoldable pub tableBlocked : Table
+tableBlocked = tableOf 4 2 (row 1 16 1 4 ∷ row 3 4 1 8 ∷ [])
+
+-- numbers outside their limits, and the neighbours that are just inside
+unfoldable pub limitRows : List Row
+limitRows =
+    record { asked = admission (tableOf 4 0 []); written = found (fault (refusal 2)) }
     ∷ record { asked = admission (tableOf 4 17 (replicate 16 (row 1 4 1 1000))); written = found (fault (refusal 2)) }
+    ∷ record { asked = admission (tableFirst (row 0 8 1 4)); written = found (fault (refusalAt 3 0)) }
+    ∷ record { asked = admission (tableFirst (row 5 8 1 4)); written = found (fault (refusalAt 3 0)) }
+    ∷ record { asked = admission (tableSecond (row 1 16777217 1 8)); written = found (fault (refusalAt 4 1)) }
+    ∷ record { asked = admission (tableSecond (row 1 16777216 1 7)); written = found faultless }
+    ∷ record { asked = admission (tableSecond (row 1 4 0 7)); written = found (fault (refusalAt 5 1)) }
+    ∷ record { asked = admission (tableSecond (row 1 4 256 1027)); written = found (fault (refusalAt 5 1)) }
+    ∷ record { asked = admission (tableSecond (row 1 4 255 1023)); written = found faultless }
+    ∷ record { asked = admission (tableSecond (row 1 4 1 0)); written = found (fault (refusalAt 5 1)) }
+    ∷ record { asked = admission (tableSecond (row 1 4 1 1073741825)); written = found (fault (refusalAt 5 1)) }
+    ∷ record { asked = admission (tableSecond (row 1 4 1 1073741824)); written = found faultless }
     -- rates that sum to exactly D, with the largest bursts at the largest N
     ∷ record { asked = admission tableLargest; written = found faultless }
-    -- place 1 is blocked while place 0 spends its burst: its credit passes its burst of 4
+    -- first slot number two to the power 62 starts, and its first slot is refused 22
     ∷ record {
-      asked = run tableT 0 (post 0 3 ∷ post 1 1 ∷ slot ∷ slot ∷ []);
-      written = heard (accepted ∷ accepted ∷ granted 0 0 ∷ granted 1 0 ∷ []) (2 ∷ 6 ∷ []);
+      asked = calling tableT 4611686018427387904 (slot ∷ []);
+      written = told accepted (refused (refusal 22) ∷ []) (standing 4611686018427387904 (8 ∷ 4 ∷ []) (0 ∷ 0 ∷ []));
     }
-    -- then place 0 has no credit: place 1 is granted its last transfer, and is capped only in the slot after
+    -- one more is refused 12, with a state whose every field is 0: each call on it is refused 23
     ∷ record {
-      asked = run (tableOf 4 2 (row 1 16 1 4 ∷ row 3 4 1 8 ∷ [])) 0 (post 0 3 ∷ post 1 1 ∷ slot ∷ slot ∷ slot ∷ slot ∷ []);
-      written = heard (accepted ∷ accepted ∷ granted 0 0 ∷ granted 1 0 ∷ granted 2 0 ∷ granted 3 1 ∷ []) (8 ∷ 12 ∷ []);
+      asked = calling tableT 4611686018427387905 (slot ∷ post 0 1 ∷ []);
+      written = told (refused (refusal 12)) (refused (refusal 23) ∷ refused (refusal 23) ∷ []) (standing 0 (0 ∷ 0 ∷ []) (0 ∷ 0 ∷ []));
     }
+    -- counts far beyond 65,535; a backlog and a count that pass the limit only together; a place that is not below N
     ∷ record {
-      asked = run (tableOf 4 2 (row 1 16 1 4 ∷ row 3 4 1 8 ∷ [])) 0 (post 0 3 ∷ post 1 1 ∷ slot ∷ slot ∷ slot ∷ slot ∷ slot ∷ []);
-      written = heard (accepted ∷ accepted ∷ granted 0 0 ∷ granted 1 0 ∷ granted 2 0 ∷ granted 3 1 ∷ idle 4 ∷ []) (9 ∷ 4 ∷ []);
+      asked = calling tableT 0 (post 0 65536 ∷ post 1 4294967295 ∷ post 1 40000 ∷ post 1 40000 ∷ post 2 1 ∷ post 15 0 ∷ []);
+      written = told accepted
+          (refused (refusal 21) ∷ refused (refusal 21) ∷ accepted ∷ refused (refusal 21) ∷ refused (refusal 11) ∷ refused (refusal 11) ∷ [])
+          (standing 0 (8 ∷ 4 ∷ []) (0 ∷ 40000 ∷ []));
     }
-    -- counts far beyond 65,535; a place that is not below N
-    ∷ record {
-      asked = run tableT 0 (post 0 65536 ∷ post 1 4294967295 ∷ post 2 1 ∷ post 15 0 ∷ []);
-      written = heard (refused (refusal 21) ∷ refused (refusal 21) ∷ refused (refusal 11) ∷ refused (refusal 11) ∷ []) (8 ∷ 4 ∷ []);
-    }
+    ∷ []
+
+-- which of two faults is named
+unfoldable pub orderRows : List Row
+orderRows =
     -- N = 2 with one field past place 1 that is not 0: 2, ahead of the 3 at place 0
-    ∷ record { asked = admission (tablePastTwo (row 1 0 0 0)); written = found (fault (refusal 2)) }
+    record { asked = admission (tablePastTwo (row 1 0 0 0)); written = found (fault (refusal 2)) }
     ∷ record { asked = admission (tablePastTwo (row 0 1 0 0)); written = found (fault (refusal 2)) }
     ∷ record { asked = admission (tablePastTwo (row 0 0 1 0)); written = found (fault (refusal 2)) }
     ∷ record { asked = admission (tablePastTwo (row 0 0 0 1)); written = found (fault (refusal 2)) }
@@ -76,16 +84,98 @@ edgeRows =
     ∷ record { asked = admission (tablePastLast (row 0 0 1 0)); written = found (fault (refusal 2)) }
     ∷ record { asked = admission (tablePastLast (row 0 0 0 1)); written = found (fault (refusal 2)) }
     ∷ record { asked = admission (tablePastTwo noRequestor); written = found (fault (refusalAt 3 0)) }
-    -- in a state such a field, a credit or a backlog past place 1: 23
-    ∷ record { asked = call (stateOf (tableOf 4 2 (row 1 8 1 4 ∷ row 1 4 1 7 ∷ row 0 0 0 1 ∷ [])) 0 (account 8 0 ∷ account 4 0 ∷ [])) slot; written = answered (refused (refusal 23)) }
-    ∷ record { asked = call (stateOf tableT 0 (account 8 0 ∷ account 4 0 ∷ account 1 0 ∷ [])) slot; written = answered (refused (refusal 23)) }
-    ∷ record { asked = call (stateOf tableT 0 (account 8 0 ∷ account 4 0 ∷ account 0 1 ∷ [])) slot; written = answered (refused (refusal 23)) }
-    ∷ record { asked = call (stateOf tableT 0 (account 8 0 ∷ account 4 0 ∷ replicate 13 noAccount ++ account 0 1 ∷ [])) (post 9 1); written = answered (refused (refusal 23)) }
-    -- a credit sum past the burst sum, a backlog past its limit, a slot number past its limit: 23
-    ∷ record { asked = call (stateOf tableT 0 (account 9 0 ∷ account 3 0 ∷ [])) slot; written = answered (refused (refusal 23)) }
-    ∷ record { asked = call (stateOf tableT 0 (account 8 0 ∷ account 4 65536 ∷ [])) slot; written = answered (refused (refusal 23)) }
-    ∷ record { asked = call (stateOf tableT 4611686018427387905 (account 8 0 ∷ account 4 0 ∷ [])) slot; written = answered (refused (refusal 23)) }
-    -- a credit above its own burst within the sums, as of a blocked place, and a table that fails only 7: no 23
-    ∷ record { asked = call (stateOf tableT 7 (account 0 1 ∷ account 12 1 ∷ [])) slot; written = answered (granted 7 1) }
-    ∷ record { asked = call (stateOf tableTShort 0 (account 8 0 ∷ account 4 1 ∷ [])) slot; written = answered (granted 0 1) }
+    -- place by place: 5 at place 0 ahead of 3 at place 1
+    ∷ record { asked = admission (tableOf 4 2 (row 1 8 0 4 ∷ row 0 4 1 7 ∷ [])); written = found (fault (refusalAt 5 0)) }
+    -- 6 ahead of 7, 7 ahead of 12, and of two places that fail 7 the lower
+    ∷ record { asked = admission (tableOf 4 2 (row 3 8 1 1 ∷ row 3 4 1 7 ∷ [])); written = found (fault (refusal 6)) }
+    ∷ record { asked = calling tableTShort 4611686018427387905 []; written = told (refused (refusalAt 7 1)) [] (standing 0 (0 ∷ 0 ∷ []) (0 ∷ 0 ∷ [])) }
+    ∷ record { asked = admission (tableOf 4 2 (row 1 8 1 3 ∷ row 1 4 1 6 ∷ [])); written = found (fault (refusalAt 7 0)) }
+    -- 23 ahead of 22 and of 11
+    ∷ record {
+      asked = asking (stateOf tableT 4611686018427387904 (account 9 0 ∷ account 3 0 ∷ [])) slot;
+      written = answered (refused (refusal 23)) (standing 4611686018427387904 (9 ∷ 3 ∷ []) (0 ∷ 0 ∷ []));
+    }
+    ∷ record {
+      asked = asking (stateOf tableT 0 (account 9 0 ∷ account 3 0 ∷ [])) (post 9 1);
+      written = answered (refused (refusal 23)) (standing 0 (9 ∷ 3 ∷ []) (0 ∷ 0 ∷ []));
+    }
+    ∷ []
+
+-- states that no start made
+unfoldable pub stateRows : List Row
+stateRows =
+    -- a field past place 1 that is not 0: of the table, a credit, a backlog
+    record {
+      asked = asking (stateOf (tableOf 4 2 (row 1 8 1 4 ∷ row 1 4 1 7 ∷ row 0 0 0 1 ∷ [])) 0 (account 8 0 ∷ account 4 0 ∷ [])) slot;
+      written = answered (refused (refusal 23)) (standing 0 (8 ∷ 4 ∷ []) (0 ∷ 0 ∷ []));
+    }
+    ∷ record {
+      asked = asking (stateOf tableT 0 (account 8 0 ∷ account 4 0 ∷ account 1 0 ∷ [])) slot;
+      written = answered (refused (refusal 23)) (standing 0 (8 ∷ 4 ∷ []) (0 ∷ 0 ∷ []));
+    }
+    ∷ record {
+      asked = asking (stateOf tableT 0 (account 8 0 ∷ account 4 0 ∷ account 0 1 ∷ [])) slot;
+      written = answered (refused (refusal 23)) (standing 0 (8 ∷ 4 ∷ []) (0 ∷ 0 ∷ []));
+    }
+    ∷ record {
+      asked = asking (stateOf tableT 0 (account 8 0 ∷ account 4 0 ∷ replicate 13 noAccount ++ account 0 1 ∷ [])) slot;
+      written = answered (refused (refusal 23)) (standing 0 (8 ∷ 4 ∷ []) (0 ∷ 0 ∷ []));
+    }
+    -- a credit sum past the burst sum, of places 0 to 0 and of places 0 to 1; a backlog and a slot number past their limits
+    ∷ record {
+      asked = asking (stateOf tableT 0 (account 9 0 ∷ account 3 0 ∷ [])) slot;
+      written = answered (refused (refusal 23)) (standing 0 (9 ∷ 3 ∷ []) (0 ∷ 0 ∷ []));
+    }
+    ∷ record {
+      asked = asking (stateOf tableT 0 (account 8 0 ∷ account 5 0 ∷ [])) slot;
+      written = answered (refused (refusal 23)) (standing 0 (8 ∷ 5 ∷ []) (0 ∷ 0 ∷ []));
+    }
+    ∷ record {
+      asked = asking (stateOf tableT 0 (account 8 0 ∷ account 4 65536 ∷ [])) slot;
+      written = answered (refused (refusal 23)) (standing 0 (8 ∷ 4 ∷ []) (0 ∷ 65536 ∷ []));
+    }
+    ∷ record {
+      asked = asking (stateOf tableT 4611686018427387905 (account 8 0 ∷ account 4 0 ∷ [])) slot;
+      written = answered (refused (refusal 23)) (standing 4611686018427387905 (8 ∷ 4 ∷ []) (0 ∷ 0 ∷ []));
+    }
+    -- a credit above its own burst within the sums, as of a blocked place, and a table that fails only 7: served by the rule
+    ∷ record {
+      asked = asking (stateOf tableT 7 (account 0 1 ∷ account 12 1 ∷ [])) slot;
+      written = answered (granted 7 1) (standing 8 (1 ∷ 9 ∷ []) (1 ∷ 0 ∷ []));
+    }
+    ∷ record {
+      asked = asking (stateOf tableTShort 0 (account 8 0 ∷ account 4 1 ∷ [])) slot;
+      written = answered (granted 0 1) (standing 1 (8 ∷ 1 ∷ []) (0 ∷ 0 ∷ []));
+    }
+    ∷ []
+
+-- the rule where it is easy to get wrong
+unfoldable pub ruleRows : List Row
+ruleRows =
+    -- N=1 and D=1
+    record {
+      asked = calling (tableOf 1 1 (row 1 1 1 1 ∷ [])) 0 (post 0 2 ∷ slot ∷ slot ∷ slot ∷ []);
+      written = told accepted (accepted ∷ granted 0 0 ∷ granted 1 0 ∷ idle 2 ∷ []) (standing 3 (1 ∷ []) (0 ∷ []));
+    }
+    -- place 1 is blocked while place 0 spends its burst: its credit passes its burst of 4
+    ∷ record {
+      asked = calling tableT 0 (post 0 3 ∷ post 1 1 ∷ slot ∷ slot ∷ []);
+      written = told accepted (accepted ∷ accepted ∷ granted 0 0 ∷ granted 1 0 ∷ []) (standing 2 (2 ∷ 6 ∷ []) (1 ∷ 1 ∷ []));
+    }
+    -- place 0 has had its three; place 1, with credit 13, is granted its last transfer and keeps 12, above its burst of 4
+    ∷ record {
+      asked = calling tableBlocked 0 (post 0 3 ∷ post 1 1 ∷ replicate 4 slot);
+      written = told accepted (accepted ∷ accepted ∷ granted 0 0 ∷ granted 1 0 ∷ granted 2 0 ∷ granted 3 1 ∷ []) (standing 4 (8 ∷ 12 ∷ []) (0 ∷ 0 ∷ []));
+    }
+    -- it is capped only in the slot after
+    ∷ record {
+      asked = calling tableBlocked 0 (post 0 3 ∷ post 1 1 ∷ replicate 5 slot);
+      written = told accepted (accepted ∷ accepted ∷ granted 0 0 ∷ granted 1 0 ∷ granted 2 0 ∷ granted 3 1 ∷ idle 4 ∷ [])
+          (standing 5 (9 ∷ 4 ∷ []) (0 ∷ 0 ∷ []));
+    }
+    -- a refused post uses no slot up and leaves no mark
+    ∷ record {
+      asked = calling tableT 5 (slot ∷ post 2 1 ∷ post 0 65536 ∷ slot ∷ []);
+      written = told accepted (idle 5 ∷ refused (refusal 11) ∷ refused (refusal 21) ∷ idle 6 ∷ []) (standing 7 (8 ∷ 4 ∷ []) (0 ∷ 0 ∷ []));
+    }
     ∷ []

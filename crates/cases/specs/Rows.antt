@@ -1,6 +1,8 @@
 -- What a row asks, what it is told, and the one evaluator, which runs the definitions that the contracts cite.
-use mathlib.Core.List.{List, _++_, map}
+use mathlib.Core.Bool.{Bool, true, false, _&&_}
+use mathlib.Core.List.{List, [], _∷_, _++_, map}
 use Prim.Native.Nat.{ℕ, _-_, _*_}
+use lib.Dec.{ltb}
 use lib.ListN.{length, take, replicate}
 use Rattle.lists.specs.Runs
 use Rattle.arbiter.specs.declared.table.Requestor.{Requestor}
@@ -10,12 +12,12 @@ use Rattle.arbiter.specs.declared.state.Arbiter.{Arbiter}
 use Rattle.arbiter.specs.Limits.{maxPlaces}
 use Rattle.arbiter.specs.Refusals.{Verdict}
 use Rattle.arbiter.specs.Answers.{Answer}
-use Rattle.arbiter.specs.Table.{noRequestor, requestorsOf, requestorAt}
+use Rattle.arbiter.specs.Table.{noRequestor, requestorAt, requestorsOf}
 use Rattle.arbiter.specs.Figures.{burstsAbove, rateLeft, waitOf, finish, admissionVerdict}
-use Rattle.arbiter.specs.State.{credit, backlog}
+use Rattle.arbiter.specs.State.{credit, backlog, noAccount, accountAt}
 use Rattle.arbiter.specs.Start.{start}
-use Rattle.calls.specs.Calls.{Call, called}
-use Rattle.guarantees.specs.Counts.{slotsIn, grantsTo}
+use Rattle.calls.specs.Calls.{Call, post, slot, called}
+use Rattle.guarantees.specs.Counts.{slotsIn, grantsTo, stateAfter, heardFrom}
 
 -- n, b, j and L of one place
 abbrev pub row : ℕ → ℕ → ℕ → ℕ → Requestor
@@ -33,45 +35,70 @@ padded zero-element xs = xs ++ replicate (maxPlaces - length xs) zero-element
 unfoldable pub tableOf : ℕ → ℕ → List Requestor → Table
 tableOf d n rows = record { denominator = d; count = n; requestors = padded noRequestor rows }
 
+-- a state of a table, a slot number and accounts from place 0 on
+unfoldable pub stateOf : Table → ℕ → List Account → Arbiter
+stateOf t at accounts = record { table = t; slot = record { 0 = at }; accounts = padded noAccount accounts }
+
 pub data Question : Type 0 where
   -- what admission finds
   admission : Table → Question
-  -- what the calls answer from a start, and the credits of the first N places then
-  run : Table → (first : ℕ) → List Call → Question
-  -- what one call on a state answers
-  call : Arbiter → Call → Question
+  -- what a start answers, and the calls from it, and how the state stands then
+  calling : Table → (first : ℕ) → List Call → Question
+  -- what one call on a state answers, and how the state stands then
+  asking : Arbiter → Call → Question
   -- B, R, the wait and the finish figure of a place for j transfers
   figures : Table → (place j : ℕ) → Question
-  -- the two sides of the floor for a place over the calls after the first few: R × D × g, and n × (R × L − B)
+  -- the floor for a place over `inside`, entered after `before` from slot 0
   floor : Table → (before inside : List Call) → (place : ℕ) → Question
+
+-- how a state stands: its slot number, and the credits and backlogs of the first N places
+pub record Standing : Type 0 where
+  pub slot : ℕ
+  pub credits : List ℕ
+  pub backlogs : List ℕ
+
+abbrev pub standing : ℕ → List ℕ → List ℕ → Standing
+standing at credits backlogs = record { slot = at; credits = credits; backlogs = backlogs }
 
 pub data Reply : Type 0 where
   found : Verdict → Reply
-  heard : List Answer → (credits : List ℕ) → Reply
-  answered : Answer → Reply
+  told : (started : Answer) (answers : List Answer) → Standing → Reply
+  answered : Answer → Standing → Reply
   figured : (B R wait finish : ℕ) → Reply
-  sides : (granted owed : ℕ) → Reply
+  -- the credit on entry, whether the place waits in every slot, R × D × g, and n × (R × L − B)
+  floored : (credit : ℕ) (waits : Bool) (granted owed : ℕ) → Reply
 
--- a floor's two sides from its parts
-abbrev pub floorSides : ℕ → ℕ → ℕ → ℕ → ℕ → ℕ → Reply
-floorSides d n R B L g = sides (R * d * g) (n * (R * L - B))
+-- the state as a table with n places shows it
+unfoldable pub standsAt : ℕ → Arbiter → Standing
+standsAt n s = standing (s .slot .0) (map credit (take n (s .accounts))) (map backlog (take n (s .accounts)))
+
+-- place p has a transfer waiting directly before each slot
+unfoldable pub waitsThroughout : ℕ → Arbiter → List Call → Bool
+waitsThroughout p s [] = true
+waitsThroughout p s (post i count ∷ cs) = waitsThroughout p (called maxPlaces s (post i count) .state) cs
+waitsThroughout p s (slot ∷ cs) = ltb 0 (backlog (accountAt p (s .accounts))) && waitsThroughout p (called maxPlaces s slot .state) cs
+
+-- the floor's two sides from its parts
+abbrev pub floorSides : ℕ → Bool → ℕ → ℕ → ℕ → ℕ → ℕ → ℕ → Reply
+floorSides c waits d n R B L g = floored c waits (R * d * g) (n * (R * L - B))
 
 unfoldable pub reply : Question → Reply
 reply (admission t) = found (admissionVerdict maxPlaces t)
-reply (run t first calls) =
-    let s = start maxPlaces t first .state in
-    heard (Runs.answers (called maxPlaces) s calls) (map credit (take (t .count) (Runs.end (called maxPlaces) s calls .accounts)))
-reply (call s c) = answered (called maxPlaces s c .answer)
+reply (calling t first calls) =
+    let begun = start maxPlaces t first in
+    told (begun .answer) (heardFrom maxPlaces (begun .state) calls) (standsAt (t .count) (stateAfter maxPlaces t first calls))
+reply (asking s c) = answered (called maxPlaces s c .answer) (standsAt (s .table .count) (called maxPlaces s c .state))
 reply (figures t p j) =
     let B = burstsAbove p (requestorsOf t) in
     let R = rateLeft (t .denominator) p (requestorsOf t) in
     figured B R (waitOf B R) (finish (t .denominator) (requestorsOf t) p j)
 reply (floor t before inside p) =
-    let s = Runs.end (called maxPlaces) (start maxPlaces t 0 .state) before in
-    let stretch = Runs.answers (called maxPlaces) s inside in
-    floorSides (t .denominator) (requestorAt p (requestorsOf t) .rate) (rateLeft (t .denominator) p (requestorsOf t)) (burstsAbove p (requestorsOf t)) (slotsIn stretch) (grantsTo p stretch)
+    let s = stateAfter maxPlaces t 0 before in
+    let heard = heardFrom maxPlaces s inside in
+    floorSides (credit (accountAt p (s .accounts))) (waitsThroughout p s inside) (t .denominator) (requestorAt p (requestorsOf t) .rate)
+    (rateLeft (t .denominator) p (requestorsOf t)) (burstsAbove p (requestorsOf t)) (slotsIn heard) (grantsTo p heard)
 
--- a question, and the reply that the paper has written down
+-- a question, and the reply that is written for it: in BenchRows what the paper says, in EdgeRows what was worked out by hand
 pub record Row : Type 0 where
   pub asked : Question
   pub written : Reply

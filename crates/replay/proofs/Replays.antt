@@ -30,7 +30,7 @@ use Rattle.calls.specs.declared.slot.Grant.the-variants.{Nobody, Place}
 use Rattle.calls.specs.Calls.{Call, post, slot, grantOf, slotAnswer, done, ruleVerdict, outcome, called}
 use Rattle.replay.specs.declared.Words.{Words}
 use Rattle.replay.specs.declared.Made.{Made}
-use Rattle.replay.specs.Replay.{callOf, callsOf, madeCalls, placeWord, answerWords, wordsOf, writtenOver, afterCalls, run, continued, replay, replayedOf, listed, Makes}
+use Rattle.replay.specs.Replay.{callOf, callsOf, madeCalls, placeWord, answerWords, wordsOf, writtenOver, afterCalls, callsFrom, continued, replay, replayedOf, listed, Makes}
 
 -- ---- a refused call names no place
 
@@ -225,8 +225,8 @@ module _ (limit : ℕ) (calls old : List ℕ) (s : Arbiter) (n : ℕ) where
 
   -- all of them
   pub standing-last : (words : List ℕ) (state : Arbiter) (i : ℕ) → Standing limit calls old s n words state i → n ≤ i → n ≡ min (length calls / 3) (length old / 3)
-      → afterCalls state words ≡ run limit s calls old
-  unfolding run
+      → afterCalls state words ≡ callsFrom limit s calls old
+  unfolding callsFrom
   standing-last words state i g h e =
       let whole : i ≡ n = omega (arith, g .within) in
       let all : take i (callsOf calls) ≡ madeCalls calls old = ap (λ (k : ℕ). take k (callsOf calls)) whole ∙ all-made calls old n e in
@@ -241,7 +241,7 @@ module _ (limit : ℕ) (t : Table) (first : ℕ) (calls old : List ℕ) (begun :
   replay-refused c q = rw (← e, q)
 
   -- the calls follow an accepted one
-  pub replay-started : (state : Arbiter) (words : List ℕ) → begun .answer ≡ start-answer.Started → afterCalls state words ≡ run limit (begun .state) calls old
+  pub replay-started : (state : Arbiter) (words : List ℕ) → begun .answer ≡ start-answer.Started → afterCalls state words ≡ callsFrom limit (begun .state) calls old
       → afterCalls state words ≡ replay limit t first calls old
   unfolding replay continued
   replay-started state words q r = rw (← e, q) r

@@ -73,8 +73,8 @@ abbrev pub afterCalls : Arbiter → (words : List ℕ) → Replayed
 afterCalls s words = record { state = s; answer = accepted; words = words }
 
 -- the calls from a state, each on the state that the one before handed back
-unfoldable pub run : ℕ → Arbiter → (calls old : List ℕ) → Replayed
-run limit s calls old =
+unfoldable pub callsFrom : ℕ → Arbiter → (calls old : List ℕ) → Replayed
+callsFrom limit s calls old =
     afterCalls
     (end (called limit) s (madeCalls calls old))
     (writtenOver (wordsOf (answers (called limit) s (madeCalls calls old))) old)
@@ -83,7 +83,7 @@ run limit s calls old =
 unfoldable pub continued : ℕ → Result Arbiter Answer → (calls old : List ℕ) → Replayed
 continued limit begun calls old =
     pick (isAccepted (begun .answer))
-    (run limit (begun .state) calls old)
+    (callsFrom limit (begun .state) calls old)
     (record { state = begun .state; answer = begun .answer; words = old })
 
 -- a start and the calls from it; `limit` is the largest N

@@ -18,7 +18,7 @@ ghost use Rattle.arbiter.specs.Limits.{maxPlaces};
 ghost use Rattle.arbiter.specs.Refusals.{refusalOf};
 ghost use Rattle.arbiter.specs.Answers.{refused};
 ghost use Rattle.calls.specs.Calls.{post, slot, called};
-ghost use Rattle.replay.specs.Replay.{callOf, placeWord, answerWords, afterCalls, run, replay, replayedOf, listed, Makes};
+ghost use Rattle.replay.specs.Replay.{callOf, placeWord, answerWords, afterCalls, callsFrom, replay, replayedOf, listed, Makes};
 
 // An answer as three numbers.
 struct Words(u64, u64, u64);
@@ -114,7 +114,7 @@ fn calls_with_room(numbers: usize, room: usize) -> usize
 
 // Every call that its answer has room for. A loop and no recursion: a list may be long, and each turn would keep a state.
 fn make_calls(s: Arbiter, calls: &[u32], answers: &mut [u64]) -> Arbiter
-    ensures { λ r. ⌜ afterCalls r (now (answers .exit)) ≡ run maxPlaces s (now (calls .entry)) (now (answers .entry)) ⌝ }
+    ensures { λ r. ⌜ afterCalls r (now (answers .exit)) ≡ callsFrom maxPlaces s (now (calls .entry)) (now (answers .entry)) ⌝ }
 {
     let n = calls_with_room(calls.len(), answers.len());
     let mut state = s;
