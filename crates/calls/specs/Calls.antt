@@ -58,7 +58,8 @@ unfoldable pub done : Arbiter → Call → Result Arbiter Answer
 done s (post p count) = record { state = filled s p count; answer = accepted }
 done s slot = record { state = advanced s (grantOf s); answer = slotAnswer (s .slot .0) (grantOf s) }
 
--- what turns a call down, tested on the state's own table, q, c and slot number. Post: 11, 21. Slot: 22.
+-- What turns a call down, tested on the state's own table, q, c and slot number. Post: 11, 21. Slot: 22. 23 is not among them:
+-- from an accepted start it never turns a call down (guarantees, CreditSums), so the rule needs no look at it.
 unfoldable pub ruleVerdict : Arbiter → Call → Verdict
 ruleVerdict s (post p count) =
     gate (refusal 11) (ltb p (s .table .count))

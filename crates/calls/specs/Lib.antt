@@ -1,4 +1,4 @@
--- Document 01's rule of a slot, and what a list of calls does to a state.
+-- Document 01's rule of a slot, and what a post and a slot do to a state.
 pub mod Rule
 pub mod Places
 pub mod Calls

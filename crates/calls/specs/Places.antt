@@ -1,5 +1,5 @@
 -- The rule of a slot read place by place, as the code's loop goes: what a slot that granted g makes of the account of place p.
--- `after-place` in proofs/ says that this is `after` of the rule.
+-- proofs/Updates says that, place by place, this is `after` of the rule.
 use mathlib.Core.Bool.{Bool, false}
 use Prim.Native.Nat.{ℕ}
 use lib.Dec.{eqb}

@@ -17,6 +17,11 @@ use Rattle.arbiter.specs.State.{accountAt}
 use Rattle.calls.specs.Calls.{Call, post, slot, called}
 use Rattle.guarantees.specs.Counts.{Accepted, startState}
 
+-- "A post to a place changes no grant, credit or backlog of the places above it": nor any other account than its own
+abbrev pub Post-apart : Type 0
+Post-apart = (limit : ℕ) (s : Arbiter) (p count i : ℕ) → (i ≡ p → ⊥)
+    → accountAt i (called limit s (post p count) .state .accounts) ≡ accountAt i (s .accounts)
+
 abbrev pub keep : Bool → Call → List Call → List Call
 keep true c cs = c ∷ cs
 keep false c cs = cs
@@ -24,11 +29,6 @@ keep false c cs = cs
 unfoldable pub concerns : ℕ → Call → Bool
 concerns m (post p count) = ltb p m
 concerns m slot = true
-
--- "A post to a place changes no grant, credit or backlog of the places above it": nor any other account than its own
-abbrev pub Post-apart : Type 0
-Post-apart = (limit : ℕ) (s : Arbiter) (p count i : ℕ) → (i ≡ p → ⊥)
-    → accountAt i (called limit s (post p count) .state .accounts) ≡ accountAt i (s .accounts)
 
 -- the slots, and the posts to the first m places, refused ones included
 unfoldable pub concerning : ℕ → List Call → List Call
@@ -40,6 +40,7 @@ pub data View : Type 0 where
   own : (stamp place : ℕ) → View
   other : (stamp : ℕ) → View
   turned-down : Refusal → View
+  -- of a post, and never shown
   no-slot : View
 
 unfoldable pub view : ℕ → Answer → View
