@@ -31,6 +31,25 @@ pub gate-passed : (r : Refusal) (test : Bool) (rest : Verdict) → test ≡ true
 unfolding gate
 gate-passed r test rest e = rw e
 
+-- a check made by itself, and then the others
+pub gate-then : (r : Refusal) (test : Bool) (rest : Verdict) → then (gate r test faultless) rest ≡ gate r test rest
+unfolding gate then
+gate-then r true rest = refl
+gate-then r false rest = refl
+
+-- two checks made ahead of the rest: what they find is found, and if they find nothing the rest decides
+pub two-gates-fault : (r q x : Refusal) (test other : Bool) (rest : Verdict) → then (gate r test faultless) (gate q other faultless) ≡ fault x
+    → gate r test (gate q other rest) ≡ fault x
+unfolding gate then
+two-gates-fault r q x true true rest e = let z : _≡_ {A = ℕ} 0 1 = cc in absurd (omega arith)
+two-gates-fault r q x true false rest e = e
+two-gates-fault r q x false other rest e = e
+
+pub two-gates-passed : (r q : Refusal) (test other : Bool) → then (gate r test faultless) (gate q other faultless) ≡ faultless → (test ≡ true) × (other ≡ true)
+two-gates-passed r q test other e =
+    let a = then-open _ _ e in
+    (gate-open r test faultless (a .0) .0, gate-open q other faultless (a .1) .0)
+
 -- a check that passes place by place passes at each place
 pub each-place-at : (check : ℕ → Requestor → Verdict) (p : ℕ) (rs : List Requestor) → eachPlace check p rs ≡ faultless
     → (i : ℕ) → i < length rs → check (p + i) (requestorAt i rs) ≡ faultless

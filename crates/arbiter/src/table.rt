@@ -13,7 +13,7 @@ ghost use lib.ListN.{drop};
 ghost use Rattle.lists.specs.Choices.{inRange};
 ghost use Rattle.lists.specs.Sums.{every};
 ghost use Rattle.arbiter.specs.Limits.{maxPlaces};
-ghost use Rattle.arbiter.specs.Refusals.{verdictOf};
+ghost use Rattle.arbiter.specs.Refusals.{refusalOf, verdictOf, faultless, gate};
 ghost use Rattle.arbiter.specs.Table.{requestorClear, tailVerdict, rateSumVerdict, requestorsOf, rowVerdict, eachPlace, tableVerdict};
 
 // One row of the table: the rate n, the burst b, and the need of j transfers within L slots.
@@ -31,13 +31,17 @@ pub struct Table {
     pub requestors: [Requestor; Arbiter::MAX_PLACES],
 }
 
-fn in_range(low: u64, high: u64, x: u64) -> bool
-    ensures { λ r. ⌜ r ≡ inRange low high x ⌝ }
+// A number held to its limits, with the refusal for one outside them.
+fn check_range(low: u64, high: u64, x: u64, why: InputRefusal) -> Verdict
+    ensures { λ v. ⌜ verdictOf v ≡ gate (refusalOf (Cause.Input why)) (inRange low high x) faultless ⌝ }
 {
     if x < low {
-        return false;
+        return Verdict::Fault(Cause::Input(why));
     }
-    x <= high
+    if high < x {
+        return Verdict::Fault(Cause::Input(why));
+    }
+    Verdict::Faultless
 }
 
 fn is_clear(r: Requestor) -> bool
@@ -77,21 +81,23 @@ fn rest_is_clear(t: Table) -> bool
 fn check_row(d: u32, p: usize, r: Requestor) -> Verdict
     ensures { λ v. ⌜ verdictOf v ≡ rowVerdict d p r ⌝ }
 {
-    let need = r.need;
-    let within = r.within;
-    if !in_range(1, d as u64, r.rate as u64) {
-        return Verdict::Fault(Cause::Input(InputRefusal::Rate(p)));
-    }
-    if !in_range(d as u64, Arbiter::MAX_BURST as u64, r.burst as u64) {
-        return Verdict::Fault(Cause::Input(InputRefusal::Burst(p)));
-    }
-    if !in_range(1, Arbiter::MAX_NEED as u64, need.0 as u64) {
-        return Verdict::Fault(Cause::Input(InputRefusal::Need(p)));
-    }
-    if !in_range(1, Arbiter::MAX_WITHIN, within.0) {
-        return Verdict::Fault(Cause::Input(InputRefusal::Need(p)));
-    }
-    Verdict::Faultless
+    let j = r.need;
+    let l = r.within;
+    let rate = check_range(1, d as u64, r.rate as u64, InputRefusal::Rate(p));
+    let burst = check_range(
+        d as u64,
+        Arbiter::MAX_BURST as u64,
+        r.burst as u64,
+        InputRefusal::Burst(p),
+    );
+    let need = check_range(
+        1,
+        Arbiter::MAX_NEED as u64,
+        j.0 as u64,
+        InputRefusal::Need(p),
+    );
+    let within = check_range(1, Arbiter::MAX_WITHIN, l.0, InputRefusal::Need(p));
+    first_fault(rate, first_fault(burst, first_fault(need, within)))
 }
 
 // Checks 3, 4 and 5, place by place.
@@ -150,14 +156,21 @@ pub fn check_table(t: Table) -> Verdict
 {
     let d = t.denominator;
     let n = t.count;
-    if !in_range(1, Arbiter::MAX_DENOMINATOR as u64, d as u64) {
-        return Verdict::Fault(Cause::Input(InputRefusal::Denominator));
+    let denominator = check_range(
+        1,
+        Arbiter::MAX_DENOMINATOR as u64,
+        d as u64,
+        InputRefusal::Denominator,
+    );
+    let count = check_range(1, Arbiter::MAX_PLACES as u64, n as u64, InputRefusal::Count);
+    let limits = first_fault(denominator, count);
+    match limits {
+        Verdict::Fault(_) => limits,
+        Verdict::Faultless => {
+            let tail = check_tail(t);
+            let rows = check_rows(t);
+            let sum = check_rate_sum(t);
+            first_fault(tail, first_fault(rows, sum))
+        }
     }
-    if !in_range(1, Arbiter::MAX_PLACES as u64, n as u64) {
-        return Verdict::Fault(Cause::Input(InputRefusal::Count));
-    }
-    let tail = check_tail(t);
-    let rows = check_rows(t);
-    let sum = check_rate_sum(t);
-    first_fault(tail, first_fault(rows, sum))
 }

@@ -1,4 +1,5 @@
 pub mod Accounts
+pub mod Verdicts
 pub mod Search
 pub mod Updates
 pub mod Room

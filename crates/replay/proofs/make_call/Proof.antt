@@ -16,7 +16,7 @@ unfolding callOf
 returns c = rw (c .before .if1 .taken) (c .make-slot .ensures)
 
 returns-2 : tie.Need-returns-2
-returns-2 c = let a = (c .before .before) .args in rw (call-post (a .what) (a .place) (a .count) (c .before .if1 .left)) (c .make-post .ensures)
+returns-2 c = let a = c .before .before .args in rw (call-post (a .what) (a .place) (a .count) (c .before .if1 .left)) (c .make-post .ensures)
 
 pub make-call-spec : {M : Type 1} → statement M
 make-call-spec = tie.close (tie.spec make-slot-requires make-post-requires returns returns-2)

@@ -84,9 +84,11 @@ loop-less c = omega arith
 
 loop-again : tie.Need-loop-again Inv-loop μ-loop
 loop-again c =
-    let a = (c .before .before .before .before .before .before .before .before .before .before .before) .args in
-    let l = c .before .before .before .before .before .before .before .loop in
-    standing-more maxPlaces (a .calls .now) (a .answers .now) (a .s) _ (l .answers) (l .state) (l .i) (c .before .before .make-call .result) (l .inv) (c .before .before .before .before .before .before .loop-test .taken) (c .before .before .make-call .ensures)
+    let a = c .before .before .before .before .before .before .before .before .before .before .before .args in
+    let turn = c .before .before .before .before .before .before in
+    let l = turn .before .loop in
+    let made = c .before .before .make-call in
+    standing-more maxPlaces (a .calls .now) (a .answers .now) (a .s) _ (l .answers) (l .state) (l .i) (made .result) (l .inv) (turn .loop-test .taken) (made .ensures)
 
 same-length : tie.Need-same-length Inv-loop μ-loop
 same-length c = c .before .loop .inv .same-length

@@ -19,7 +19,7 @@ make-calls-requires c κs = search needs
 
 returns : tie.Need-returns
 returns c =
-    let a = (c .before .before .before .before .before .before) .args in
+    let a = c .before .before .before .before .before .before .args in
     let begun = c .before .before .before .start in
     replay-refused maxPlaces (a .t) (a .first .0) (a .calls .now) (a .answers .now) (begun .result) (begun .ensures) _ (c .enum-told .given .1)
 
@@ -28,7 +28,7 @@ same-length c = search needs
 
 returns-2 : tie.Need-returns-2
 returns-2 c =
-    let a = (c .before .before .before .before .before .before .before .before .before .before) .args in
+    let a = c .before .before .before .before .before .before .before .before .before .before .args in
     let begun = c .before .before .before .before .before .before .before .start in
     let made = c .before .before .make-calls in
     replay-started maxPlaces (a .t) (a .first .0) (a .calls .now) (a .answers .now) (begun .result) (begun .ensures) (made .result) _ (c .before .before .before .before .enum-told2 .given .1) (made .ensures)

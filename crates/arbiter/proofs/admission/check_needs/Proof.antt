@@ -40,27 +40,35 @@ loop-less c = omega arith
 
 loop-again : tie.Need-loop-again Inv-loop μ-loop
 loop-again c =
-    let a = (c .before .before .before .before .before) in
+    let a = c .before .before .before .before .before in
     let l = c .before .before .before .before .loop in
-    let e = sym (c .before .before .check-need .ensures) ∙ ap verdictOf (c .enum-told .given .1) in
-    (omega arith, l .inv .1 ∙ each-pass (needVerdict (a .args .t .denominator) (requestorsOf (a .args .t))) (a .args .t .requestors) (a .args .t .count) (l .p) (omega (arith, long a, fair maxPlaces (a .args .t) (a .pre) .count-most)) (omega arith) e)
+    let t = a .args .t in
+    let e = sym (c .before .before .check-need .ensures) ∙ ap verdictOf (c .enum-told .given .1) in (
+      omega arith,
+      l .inv .1
+          ∙ each-pass (needVerdict (t .denominator) (requestorsOf t)) (t .requestors) (t .count) (l .p)
+          (omega (arith, long a, fair maxPlaces t (a .pre) .count-most)) (omega arith) e,
+    )
 
 enum-told-2 : tie.Need-enum-told-2 Inv-loop μ-loop
 enum-told-2 c = omega arith
 
 returns : tie.Need-returns Inv-loop μ-loop
 returns c =
-    let a = (c .before .before) in
+    let t = c .before .before .args .t in
     let l = c .before .loop in
-    sym (l .inv .1 ∙ each-end (needVerdict (a .args .t .denominator) (requestorsOf (a .args .t))) (a .args .t .requestors) (a .args .t .count) (l .p) (omega arith))
+    sym (l .inv .1 ∙ each-end (needVerdict (t .denominator) (requestorsOf t)) (t .requestors) (t .count) (l .p) (omega arith))
 
 returns-2 : tie.Need-returns-2 Inv-loop μ-loop
 returns-2 c =
-    let a = (c .before .before .before .before .before) in
+    let a = c .before .before .before .before .before in
     let l = c .before .before .before .before .loop in
-    let e = sym (c .before .before .check-need .ensures) ∙ ap verdictOf (c .enum-told2 .given .1) in
-    ap verdictOf (c .enum-told2 .given .1)
-    ∙ sym (l .inv .1 ∙ each-stop (needVerdict (a .args .t .denominator) (requestorsOf (a .args .t))) (a .args .t .requestors) (a .args .t .count) (l .p) (omega (arith, long a, fair maxPlaces (a .args .t) (a .pre) .count-most)) (omega arith) _ e)
+    let t = a .args .t in
+    let found = ap verdictOf (c .enum-told2 .given .1) in
+    found
+    ∙ sym (l .inv .1
+    ∙ each-stop (needVerdict (t .denominator) (requestorsOf t)) (t .requestors) (t .count) (l .p)
+    (omega (arith, long a, fair maxPlaces t (a .pre) .count-most)) (omega arith) _ (sym (c .before .before .check-need .ensures) ∙ found))
 
 pub check-needs-spec : {M : Type 1} → statement M
 check-needs-spec =

@@ -33,7 +33,7 @@ cast-rounded-up-2 c = search needs
 
 mul-rounded-up : tie.Need-mul-rounded-up
 mul-rounded-up c =
-    let a = (c .before .before .before) in
+    let a = c .before .before .before in
     let j : a .args .j .0 ≤ 4294967295 = omega (arith, c .struct-known .given) in
     let m = mul-le-mul j (facts a .denominator-most) in
     omega (arith, m)
@@ -45,14 +45,14 @@ cast-rounded-up-3 c =
 
 rounded-up-requires : tie.Need-rounded-up-requires
 rounded-up-requires c κs =
-    let a = (c .before .before .before) in
+    let a = c .before .before .before in
     let j : a .args .j .0 ≤ 4294967295 = omega (arith, c .struct-known .given) in
     let m = mul-le-mul j (facts a .denominator-most) in
     omega (arith, m, facts a .own-rate, facts a .rates, facts a .denominator-most)
 
 add-t15 : tie.Need-add-t15
 add-t15 c =
-    let a = (c .before .before .before .before .before) in
+    let a = c .before .before .before .before .before in
     let j : a .args .j .0 ≤ 4294967295 = omega (arith, c .before .before .struct-known .given) in
     let m = mul-le-mul j (facts a .denominator-most) in
     omega (arith, m, facts a .rates, facts a .denominator-most, c .before .before .before .wait .ensures .1, c .before .rounded-up .ensures .1)

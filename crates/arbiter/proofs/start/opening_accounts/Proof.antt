@@ -46,7 +46,7 @@ loop-less c = omega arith
 
 loop-again : tie.Need-loop-again Inv-loop μ-loop
 loop-again c =
-    let a = (c .before .before .before) in
+    let a = c .before .before .before in
     let l = c .before .before .loop in
     let rs = a .args .t1 .requestors in (
       omega arith,
@@ -56,7 +56,7 @@ loop-again c =
 
 returns : tie.Need-returns Inv-loop μ-loop
 returns c =
-    let a = (c .before .before) in
+    let a = c .before .before in
     let l = c .before .loop in
     let rs = a .args .t1 .requestors in
     l .inv .2 ∙ overwrite-all noAccount (map fresh rs) _ (l .p) (omega (arith, length-map rs fresh, rows a)) (omega (arith, l .inv .1))

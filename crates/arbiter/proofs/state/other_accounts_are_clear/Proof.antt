@@ -36,7 +36,7 @@ account-is-clear-requires c κs = omega arith
 
 returns : tie.Need-returns Inv-loop μ-loop
 returns c =
-    let a = (c .before .before .before .before .before .before) in
+    let a = c .before .before .before .before .before .before in
     let l = c .before .before .before .before .loop in
     sym (l .inv .1 ∙ every-stop accountClear noAccount (a .args .t1 .accounts) (l .p) (omega (arith, long a)) (sym (c .before .account-is-clear .ensures) ∙ not-true _ (c .if1 .taken)))
 
@@ -48,13 +48,13 @@ loop-less c = omega arith
 
 loop-again : tie.Need-loop-again Inv-loop μ-loop
 loop-again c =
-    let a = (c .before .before .before .before .before .before) in
+    let a = c .before .before .before .before .before .before in
     let l = c .before .before .before .before .loop in
     (omega arith, l .inv .1 ∙ every-pass accountClear noAccount (a .args .t1 .accounts) (l .p) (omega (arith, long a)) (sym (c .before .account-is-clear .ensures) ∙ not-false _ (c .if1 .left)))
 
 returns-2 : tie.Need-returns-2 Inv-loop μ-loop
 returns-2 c =
-    let a = (c .before .before .before) in
+    let a = c .before .before .before in
     let l = c .before .loop in
     sym (l .inv .1 ∙ every-end accountClear noAccount (a .args .t1 .accounts) (l .p) (omega (arith, long a)))
 

@@ -29,25 +29,28 @@ sound-here c =
     (sym (length-map (c .args .s .table .requestors) _) ∙ c .good .0 .1 .1 .0 .1 .1 .1 .1 .0 .1 .0 .1)
     (sym (length-map (c .args .s .accounts) _) ∙ c .good .0 .1 .1 .1 .1 .0 .1 .0 .1)
 
+few : (c : tie.Start Inv-loop μ-loop) → c .args .s .table .count ≤ maxPlaces
+few c = places-fit (c .args .s) (sound-here c (c .pre .0))
+
 loop-holds : tie.Need-loop-holds Inv-loop μ-loop
-loop-holds c = let a = (c .before .before .before) .args in (omega arith, after-none (a .s .table .denominator) (a .g) (a .s .table .requestors) (a .s .accounts))
+loop-holds c = let a = c .before .before .before .args in (omega arith, after-none (a .s .table .denominator) (a .g) (a .s .table .requestors) (a .s .accounts))
 
 mul-r : tie.Need-mul-r Inv-loop μ-loop
-mul-r c = omega (arith, places-fit _ (sound-here (c .before .before .before .before .before) ((c .before .before .before .before .before) .pre .0)))
+mul-r c = omega (arith, few (c .before .before .before .before .before))
 
 element-copy-out-r : tie.Need-element-copy-out-r Inv-loop μ-loop
-element-copy-out-r c = omega (arith, places-fit _ (sound-here (c .before .before .before .before .before) ((c .before .before .before .before .before) .pre .0)))
+element-copy-out-r c = omega (arith, few (c .before .before .before .before .before))
 
 mul-a : tie.Need-mul-a Inv-loop μ-loop
-mul-a c = omega (arith, places-fit _ (sound-here (c .before .before .before .before .before .before) ((c .before .before .before .before .before .before) .pre .0)))
+mul-a c = omega (arith, few (c .before .before .before .before .before .before))
 
 array-copy-out-a : tie.Need-array-copy-out-a Inv-loop μ-loop
-array-copy-out-a c = omega (arith, places-fit _ (sound-here (c .before .before .before .before .before .before) ((c .before .before .before .before .before .before) .pre .0)))
+array-copy-out-a c = omega (arith, few (c .before .before .before .before .before .before))
 
 account-after-requires : tie.Need-account-after-requires Inv-loop μ-loop
 unfolding grantOf
 account-after-requires c κs =
-    let a = (c .before .before .before .before .before .before .before) in
+    let a = c .before .before .before .before .before .before .before in
     let s = a .args .s in
     let l = c .before .before .before .loop in
     let v = sound-here a (a .pre .0) in
@@ -58,10 +61,10 @@ account-after-requires c κs =
     )
 
 mul-accounts : tie.Need-mul-accounts Inv-loop μ-loop
-mul-accounts c = omega (arith, places-fit _ (sound-here (c .before .before .before .before .before .before .before .before) ((c .before .before .before .before .before .before .before .before) .pre .0)))
+mul-accounts c = omega (arith, few (c .before .before .before .before .before .before .before .before))
 
 array-set-from-accounts : tie.Need-array-set-from-accounts Inv-loop μ-loop
-array-set-from-accounts c = omega (arith, places-fit _ (sound-here (c .before .before .before .before .before .before .before .before) ((c .before .before .before .before .before .before .before .before) .pre .0)))
+array-set-from-accounts c = omega (arith, few (c .before .before .before .before .before .before .before .before))
 
 add-p : tie.Need-add-p Inv-loop μ-loop
 add-p c = omega arith
@@ -71,7 +74,7 @@ loop-less c = omega arith
 
 loop-again : tie.Need-loop-again Inv-loop μ-loop
 loop-again c =
-    let a = (c .before .before .before .before .before .before .before .before) in
+    let a = c .before .before .before .before .before .before .before .before in
     let s = a .args .s in
     let l = c .before .before .before .before .loop in
     let v = sound-here a (a .pre .0) in (
@@ -86,7 +89,7 @@ add-t22 c = omega arith
 returns : tie.Need-returns Inv-loop μ-loop
 unfolding advanced
 returns c =
-    let s = (c .before .before .before .before .before .before) .args .s in
+    let s = c .before .before .before .before .before .before .args .s in
     let e : c .before .before .loop .p ≡ s .table .count = omega arith in
     rw (c .before .before .loop .inv .1, e)
 

@@ -19,7 +19,7 @@ find-requires : tie.Need-find-requires
 find-requires c κs = search needs
 
 advance-requires : tie.Need-advance-requires
-advance-requires c κs = ((c .before .before) .pre .0, (c .before .before) .pre .1, c .find .ensures)
+advance-requires c κs = (c .before .before .pre .0, c .before .before .pre .1, c .find .ensures)
 
 enum-told : tie.Need-enum-told
 enum-told c = search needs
@@ -30,12 +30,16 @@ enum-known-g c = search needs
 returns : tie.Need-returns
 returns c =
     let e = c .enum-told .given .1 in
-    carried ((c .before .before .before .before .before) .args .s) (c .before .before .advance .result) _ (sym e ∙ c .before .before .before .find .ensures) (c .before .before .advance .ensures ∙ ap (advanced ((c .before .before .before .before .before) .args .s)) e)
+    let done = c .before .before in
+    let s = done .before .before .before .args .s in
+    carried s (done .advance .result) _ (sym e ∙ done .before .find .ensures) (done .advance .ensures ∙ ap (advanced s) e)
 
 returns-2 : tie.Need-returns-2
 returns-2 c =
     let e = c .before .g .given .1 in
-    carried ((c .before .before .before .before .before .before) .args .s) (c .before .before .before .advance .result) _ (sym e ∙ c .before .before .before .before .find .ensures) (c .before .before .before .advance .ensures ∙ ap (advanced ((c .before .before .before .before .before .before) .args .s)) e)
+    let done = c .before .before .before in
+    let s = done .before .before .before .args .s in
+    carried s (done .advance .result) _ (sym e ∙ done .before .find .ensures) (done .advance .ensures ∙ ap (advanced s) e)
 
 pub carry-out-spec : {M : Type 1} → statement M
 carry-out-spec =

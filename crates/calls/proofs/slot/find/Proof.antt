@@ -27,20 +27,23 @@ sound-here c =
     (sym (length-map (c .args .t1 .table .requestors) _) ∙ c .good .0 .1 .1 .0 .1 .1 .1 .1 .0 .1 .0 .1)
     (sym (length-map (c .args .t1 .accounts) _) ∙ c .good .0 .1 .1 .1 .1 .0 .1 .0 .1)
 
+few : (c : tie.Start Inv-loop μ-loop) → c .args .t1 .table .count ≤ maxPlaces
+few c = places-fit (c .args .t1) (sound-here c (c .pre))
+
 loop-holds : tie.Need-loop-holds Inv-loop μ-loop
 loop-holds c = (omega arith, λ i h. absurd (not-suc-le-zero h))
 
 mul-r : tie.Need-mul-r Inv-loop μ-loop
-mul-r c = omega (arith, places-fit _ (sound-here (c .before .before .before) ((c .before .before .before) .pre)))
+mul-r c = omega (arith, few (c .before .before .before))
 
 element-copy-out-r : tie.Need-element-copy-out-r Inv-loop μ-loop
-element-copy-out-r c = omega (arith, places-fit _ (sound-here (c .before .before .before) ((c .before .before .before) .pre)))
+element-copy-out-r c = omega (arith, few (c .before .before .before))
 
 mul-a : tie.Need-mul-a Inv-loop μ-loop
-mul-a c = omega (arith, places-fit _ (sound-here (c .before .before .before .before) ((c .before .before .before .before) .pre)))
+mul-a c = omega (arith, few (c .before .before .before .before))
 
 element-copy-out-a : tie.Need-element-copy-out-a Inv-loop μ-loop
-element-copy-out-a c = omega (arith, places-fit _ (sound-here (c .before .before .before .before) ((c .before .before .before .before) .pre)))
+element-copy-out-a c = omega (arith, few (c .before .before .before .before))
 
 is-eligible-requires : tie.Need-is-eligible-requires Inv-loop μ-loop
 is-eligible-requires c κs = sum-fits _ (sound-here (c .before .before .before .before .before) ((c .before .before .before .before .before) .pre)) (c .before .before .before .loop .p) (omega arith)
@@ -53,21 +56,27 @@ loop-less c = omega arith
 
 loop-again : tie.Need-loop-again Inv-loop μ-loop
 loop-again c =
-    let s = (c .before .before .before .before .before .before .before) .args .t1 in
-    (omega arith, none-more (s .table .denominator) (s .table .requestors) (s .accounts) (c .before .before .before .before .before .loop .p) (c .before .before .before .before .before .loop .inv .1) (sym (c .before .is-eligible .ensures) ∙ c .if2 .left))
+    let l = c .before .before .before .before .before in
+    let s = l .before .before .args .t1 in (
+      omega arith,
+      none-more (s .table .denominator) (s .table .requestors) (s .accounts) (l .loop .p) (l .loop .inv .1) (sym (c .before .is-eligible .ensures) ∙ c .if2 .left),
+    )
 
 returns : tie.Need-returns Inv-loop μ-loop
 unfolding grantOf
 returns c =
-    let s = (c .before .before .before) .args .t1 in
+    let s = c .before .before .before .args .t1 in
     sym (first-none (s .table .denominator) (s .table .count) (s .table .requestors) (s .accounts) (λ i h. c .before .loop .inv .1 i (omega arith)))
 
 returns-2 : tie.Need-returns-2 Inv-loop μ-loop
 unfolding grantOf
 returns-2 c =
-    let s = (c .before .before .before .before .before .before .before) .args .t1 in
-    let v = sound-here (c .before .before .before .before .before .before .before) ((c .before .before .before .before .before .before .before) .pre) in
-    sym (first-at (s .table .denominator) (s .table .count) (c .before .before .before .before .before .loop .p) (s .table .requestors) (s .accounts) (omega arith) (omega (arith, v .rows, places-fit s v)) (c .before .before .before .before .before .loop .inv .1) (sym (c .before .is-eligible .ensures) ∙ c .if2 .taken))
+    let l = c .before .before .before .before .before in
+    let a = l .before .before in
+    let s = a .args .t1 in
+    let v = sound-here a (a .pre) in
+    sym (first-at (s .table .denominator) (s .table .count) (l .loop .p) (s .table .requestors) (s .accounts)
+    (omega arith) (omega (arith, v .rows, places-fit s v)) (l .loop .inv .1) (sym (c .before .is-eligible .ensures) ∙ c .if2 .taken))
 
 pub find-spec : {M : Type 1} → statement M
 find-spec =

@@ -11,10 +11,10 @@ add-t5 : tie.Need-add-t5
 add-t5 c = search needs
 
 sub-t6 : tie.Need-sub-t6
-sub-t6 c = let a = (c .before .before .before) in eligible-true (a .args .r) (a .args .a) (a .args .d) (a .pre .1) .1
+sub-t6 c = let a = c .before .before .before in eligible-true (a .args .r) (a .args .a) (a .args .d) (a .pre .1) .1
 
 sub-t7 : tie.Need-sub-t7
-sub-t7 c = let a = (c .before .before .before .before) in eligible-true (a .args .r) (a .args .a) (a .args .d) (a .pre .1) .0
+sub-t7 c = let a = c .before .before .before .before in eligible-true (a .args .r) (a .args .a) (a .args .d) (a .pre .1) .0
 
 returns : tie.Need-returns
 unfolding served

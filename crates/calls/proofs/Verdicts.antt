@@ -1,0 +1,52 @@
+-- What a call comes to by the outcome of its checks. Assumes nothing.
+use mathlib.Core.Path.{_≡_}
+use mathlib.Core.Bool.{true, false}
+use Prim.Native.Nat.{ℕ, _+_, _≤_, _<_}
+use borrow.Author.Tests.{lt-ltb, le-ltb, lt-leb, le-leb}
+use Rattle.lists.specs.Runs.{Result}
+use Rattle.arbiter.specs.declared.refusals.Refusal.{Refusal}
+use Rattle.arbiter.specs.declared.state.Arbiter.{Arbiter}
+use Rattle.arbiter.specs.Limits.{maxBacklog, maxSlot}
+use Rattle.arbiter.specs.Refusals.{faultless, fault, refusal, gate}
+use Rattle.arbiter.specs.Answers.{Answer, refused}
+use Rattle.arbiter.specs.State.{backlog, accountAt, sound}
+use Rattle.calls.specs.Calls.{Call, post, slot, done, ruleVerdict, called}
+
+-- the state handed in, and why
+abbrev pub turnedDown : Arbiter → Refusal → Result Arbiter Answer
+turnedDown s r = record { state = s; answer = refused r }
+
+module _ (limit : ℕ) (s : Arbiter) (c : Call) where
+  pub called-unsound : sound limit s ≡ false → called limit s c ≡ turnedDown s (refusal 23)
+  unfolding called gate
+  called-unsound e = rw e
+
+  pub called-refused : sound limit s ≡ true → (r : Refusal) → ruleVerdict s c ≡ fault r → called limit s c ≡ turnedDown s r
+  unfolding called gate
+  called-refused e r v = rw (e, v)
+
+  pub called-done : sound limit s ≡ true → ruleVerdict s c ≡ faultless → called limit s c ≡ done s c
+  unfolding called gate
+  called-done e v = rw (e, v)
+
+module _ (s : Arbiter) (p count : ℕ) where
+  pub post-absent : s .table .count ≤ p → ruleVerdict s (post p count) ≡ fault (refusal 11)
+  unfolding ruleVerdict gate
+  post-absent h = rw (le-ltb _ _ h)
+
+  pub post-over : p < s .table .count → maxBacklog < backlog (accountAt p (s .accounts)) + count → ruleVerdict s (post p count) ≡ fault (refusal 21)
+  unfolding ruleVerdict gate
+  post-over h over = rw (lt-ltb _ _ h, lt-leb _ _ over)
+
+  pub post-within : p < s .table .count → backlog (accountAt p (s .accounts)) + count ≤ maxBacklog → ruleVerdict s (post p count) ≡ faultless
+  unfolding ruleVerdict gate
+  post-within h within = rw (lt-ltb _ _ h, le-leb _ _ within)
+
+module _ (s : Arbiter) where
+  pub slot-at-limit : maxSlot ≤ s .slot .0 → ruleVerdict s slot ≡ fault (refusal 22)
+  unfolding ruleVerdict gate
+  slot-at-limit h = rw (le-ltb _ _ h)
+
+  pub slot-below-limit : s .slot .0 < maxSlot → ruleVerdict s slot ≡ faultless
+  unfolding ruleVerdict gate
+  slot-below-limit h = rw (lt-ltb _ _ h)
