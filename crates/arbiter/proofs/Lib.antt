@@ -1,3 +1,4 @@
+-- Laws that belong to no one function: refusals, checks, walks over places, sums above a place, and sound states.
 pub mod Causes
 pub mod Checks
 pub mod Places

@@ -1,1 +1,2 @@
+-- The laws that replay goes by.
 mod Replays

@@ -1,3 +1,4 @@
+-- `arbiter::table::check_range` meets its contract. Two comparisons and one gate. Assumes nothing.
 use borrow.Author.Tests.{lt-leb, le-leb}
 use Rattle.arbiter.specs.Refusals.{gate}
 use Rattle.arbiter.proofs.table.check_range.Statement.{statement}

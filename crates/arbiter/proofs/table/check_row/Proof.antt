@@ -1,3 +1,4 @@
+-- `arbiter::table::check_row` meets its contract. Four gates, joined in the order of the definition. Assumes nothing.
 use mathlib.Core.Path.{_∙_}
 use borrow.Author.Needs.{needs}
 use Rattle.arbiter.specs.Table.{rowVerdict}

@@ -1,3 +1,4 @@
+-- `arbiter::table::check_table` meets its contract. D and N first, since the other checks go by N; then the three others, joined in their order. Assumes nothing.
 use mathlib.Core.Path.{_≡_, ap, ap₂, sym, _∙_}
 use mathlib.Core.Bool.{true}
 use borrow.Author.Needs.{needs}
