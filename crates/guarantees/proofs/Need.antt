@@ -4,7 +4,7 @@ use mathlib.Core.Path.{_≡_, refl, ap}
 use mathlib.Core.List.{List, [], _∷_}
 use mathlib.Core.Logic.{_⊎_, inl, inr}
 use Prim.Native.Nat.{ℕ, zero, suc, _+_, _-_, _*_, _≤_, _<_}
-use native.Mathlib.Nat.{mul-le-mul-left, one-le-mul, div-add-mod, mod-lt}
+use native.Mathlib.Nat.{mul-le-mul-left, mul-le-mul-right, div-add-mod, mod-lt}
 use native.Mathlib.Decide.{decLe}
 use native.Mathlib.Omega.{arith}
 use lib.ListN.{length}
@@ -15,17 +15,17 @@ use Rattle.arbiter.specs.declared.state.Arbiter.{Arbiter}
 use Rattle.arbiter.specs.Answers.{Answer, accepted, granted, idle, refused}
 use Rattle.arbiter.specs.Table.{requestorsOf, requestorAt}
 use Rattle.arbiter.specs.Figures.{roundedUp, burstsAbove, rateLeft, finishOf, finish}
-use Rattle.arbiter.specs.State.{backlog, accountAt}
+use Rattle.arbiter.specs.State.{credit, backlog, accountAt}
 use Rattle.arbiter.proofs.Checks.{fair}
 use Rattle.arbiter.proofs.Sound.{Sound, places-length, row-at, sound-fair, start-admitted}
 use Rattle.calls.specs.Calls.{Call, ruled}
 use Rattle.guarantees.specs.Counts.{inSlot, slotsIn, grantsTo, firstSlots, Waits, heardFrom}
+use Rattle.guarantees.specs.SharperFloor.{Sharp}
 use Rattle.guarantees.specs.Need.{Pending, GrantedWithin, Need-from-sound, Need-from-start, Own-need}
 use Rattle.guarantees.proofs.Grants.{grantTo, in-any-slot}
 use Rattle.guarantees.proofs.Sound.{sound-of, sound-next, answers-ruled}
 use Rattle.guarantees.proofs.Start.{start-passes, called-sound, called-table}
-use Rattle.guarantees.proofs.SharperFloor.{own-rate-left}
-use Rattle.guarantees.proofs.Demand3.{floor-from}
+use Rattle.guarantees.proofs.SharperFloor.{own-rate-left, sharper-from}
 use Rattle.guarantees.proofs.Conservation.{conserved-next}
 
 -- the calls up to the m-th accepted slot
@@ -68,20 +68,29 @@ rounded-up-covers : (a b : ℕ) → 1 ≤ b → a ≤ b * roundedUp a b
 unfolding roundedUp
 rounded-up-covers a b h = omega (arith, div-add-mod (a + (b - 1)) b, mod-lt (a + (b - 1)) h)
 
--- in as many slots as the finish figure says, the floor comes to j grants
-floor-enough : (d n R B L g j : ℕ) → 1 ≤ d → 1 ≤ n → 1 ≤ R → n * R * L ≤ R * d * g + n * B → finishOf d B R n j ≤ L → j ≤ g
-floor-enough d n R B L g j hd hn hR floor figure = elim (decLe j g) [
+-- in as many slots as the finish figure says, either bound of the sharper floor comes to j grants
+sharp-enough : (d n R B c L g j : ℕ) → 1 ≤ d → 1 ≤ n → n ≤ R → Sharp d n R B c L g → finishOf d B R n j ≤ L → j ≤ g
+sharp-enough d n R B c L g j hd hn rated sharp figure = elim (decLe j g) [
   | yes all ↦ all
-  | no fewer ↦ let lacks : g + 1 ≤ j = omega arith in
-      omega (
-        arith,
-        mul-le-mul-left n (mul-le-mul-left R figure),
-        mul-le-mul-left n (rounded-up-covers B R hR),
-        mul-le-mul-left R (rounded-up-covers (j * d) n hn),
-        mul-le-mul-left R (mul-le-mul-left d lacks),
-        one-le-mul hR hd,
-      )
+  | no fewer ↦ let lacks : g + 1 ≤ j = omega arith in absurd (refute lacks sharp)
 ]
+  where
+    refute : g + 1 ≤ j → Sharp d n R B c L g → ⊥
+    refute lacks (inl busy) = omega (
+      arith,
+      mul-le-mul-left R figure,
+      rounded-up-covers B R (omega arith),
+      rounded-up-covers (j * d) n hn,
+      mul-le-mul-right (roundedUp (j * d) n) rated,
+      mul-le-mul-left d lacks,
+    )
+    refute lacks (inr short) = omega (
+      arith,
+      mul-le-mul-left n (mul-le-mul-left R figure),
+      mul-le-mul-left n (rounded-up-covers B R (omega arith)),
+      mul-le-mul-left R (rounded-up-covers (j * d) n hn),
+      mul-le-mul-left R (mul-le-mul-left d lacks),
+    )
 
 -- T is the table that stands where the stretch begins; any number of slots from the finish figure on will do
 pub need-from : (limit : ℕ) (T : Table) (s : Arbiter) → s .table ≡ T → Sound limit s → (inside : List Call) (p j slots : ℕ)
@@ -102,11 +111,12 @@ need-from limit T s on v inside p j slots pending figure reached =
 
     go : (j ≤ grantsTo p (answers ruled s calls)) ⊎ Waits p s calls → j ≤ grantsTo p (answers ruled s calls)
     go (inl all) = all
-    go (inr waits) = floor-enough (T .denominator) (requestorAt p (requestorsOf T) .rate) (rateLeft (T .denominator) p (requestorsOf T)) (burstsAbove p (requestorsOf T)) _ _ j
+    go (inr waits) = sharp-enough (T .denominator) (requestorAt p (requestorsOf T) .rate) (rateLeft (T .denominator) p (requestorsOf T)) (burstsAbove p (requestorsOf T))
+        (credit (accountAt p (s .accounts))) _ _ j
         (rw on at (sound-fair limit s v .denominator-least))
         (row-at limit T (rw on at (v .rows)) (rw on at (sound-fair limit s v)) p place .rate-least)
-        (own-rate-left limit T s on v p place .1)
-        (floor-from limit T s on v calls p place waits (omega (arith, ap (λ t. t .denominator) on)))
+        (own-rate-left limit T s on v p place .0)
+        (sharper-from limit T s on v p place calls waits)
         (rw counted figure)
 
 pub need-from-sound : Need-from-sound

@@ -1,5 +1,5 @@
 -- What a need reads: "j transfers waiting together, entered with credit at least D, are all granted within L slots", whatever
--- is posted or refused meanwhile; for every j, and with the finish figure for L.
+-- is posted or refused meanwhile, and whatever the credit; for every j, and with the finish figure for L.
 use mathlib.Core.Path.{_≡_}
 use mathlib.Core.Bool.{true}
 use mathlib.Core.List.{List}
@@ -9,16 +9,15 @@ use Rattle.arbiter.specs.declared.state.Arbiter.{Arbiter}
 use Rattle.arbiter.specs.Answers.{Answer}
 use Rattle.arbiter.specs.Table.{requestorsOf, requestorAt}
 use Rattle.arbiter.specs.Figures.{finish}
-use Rattle.arbiter.specs.State.{credit, backlog, accountAt, sound}
+use Rattle.arbiter.specs.State.{backlog, accountAt, sound}
 use Rattle.calls.specs.Calls.{Call}
 use Rattle.guarantees.specs.Counts.{slotsIn, grantsTo, firstSlots, Accepted, Shaped, stateAfter, heardFrom}
 
--- j transfers wait together at place p, which has credit at least D
+-- j transfers wait together at place p. The paper's need is entered with credit at least D; at the finish figure it holds from
+-- any credit, and so does what follows here.
 pub record Pending (s : Arbiter) (p j : ℕ) : Type 0 where
   pub place : p < s .table .count
-  pub some-wait : 1 ≤ j
   pub waiting : j ≤ backlog (accountAt p (s .accounts))
-  pub entered : s .table .denominator ≤ credit (accountAt p (s .accounts))
 
 -- if so many slots are among the answers, the first so many grant place p at least j times
 abbrev pub GrantedWithin : ℕ → List Answer → (p j : ℕ) → Type 0

@@ -1,9 +1,8 @@
 -- A list of calls made one after the other from numbers: which call comes next, where its answer goes, and that a refused call
 -- names no place. Assumes nothing.
 use mathlib.Core.Path.{_≡_, refl, ap, sym, _∙_}
-use mathlib.Core.Bool.{Bool, true, false}
 use mathlib.Core.List.{List, [], _∷_, _++_, append-nil, append-assoc}
-use Prim.Native.Nat.{ℕ, zero, suc, _+_, _*_, _/_, _^_, _≤_, _<_, min}
+use Prim.Native.Nat.{ℕ, zero, suc, _+_, _*_, _/_, _≤_, _<_, min}
 use native.Mathlib.Numerals.{add-one}
 use native.Mathlib.Omega.{arith}
 use borrow.Author.Tests.{leb-true, leb-false}
@@ -15,70 +14,16 @@ use Rattle.lists.specs.Runs.{Result, end, answers}
 use Rattle.lists.proofs.Runs.{end-more, answers-more, length-answers}
 use Rattle.lists.proofs.Overwriting.{stored-behind}
 use Rattle.arbiter.specs.declared.refusals.Cause.{Cause}
-use Rattle.arbiter.specs.declared.refusals.Refusal.{Refusal}
-use Rattle.arbiter.specs.declared.refusals.Named.the-variants as named
 use Rattle.arbiter.specs.declared.table.Table.{Table}
 use Rattle.arbiter.specs.declared.state.Arbiter.{Arbiter}
 use Rattle.arbiter.specs.declared.start.StartAnswer.the-variants as start-answer
 use Rattle.arbiter.specs.declared.start.StartResult.{StartResult}
-use Rattle.arbiter.specs.Refusals.{Verdict, faultless, fault, refusal, gate}
-use Rattle.arbiter.specs.State.{sound}
 use Rattle.arbiter.specs.Answers.{Answer, accepted, granted, idle, refused}
 use Rattle.arbiter.specs.Start.{startResultOf, start}
-use Rattle.calls.specs.declared.slot.Grant.{Grant}
-use Rattle.calls.specs.declared.slot.Grant.the-variants.{Nobody, Place}
-use Rattle.calls.specs.Calls.{Call, post, slot, grantOf, slotAnswer, done, ruleVerdict, outcome, called}
+use Rattle.calls.specs.Calls.{post, slot, called}
 use Rattle.replay.specs.declared.Words.{Words}
 use Rattle.replay.specs.declared.Made.{Made}
-use Rattle.replay.specs.Replay.{callOf, callsOf, madeCalls, placeWord, answerWords, wordsOf, writtenOver, afterCalls, callsFrom, continued, replay, replayedOf, listed, Makes}
-
--- ---- a refused call names no place
-
--- a fault that names no place
-abbrev Unplaced : Verdict → Type 0
-Unplaced faultless = Unit {0}
-Unplaced (fault r) = r .place ≡ named.Nowhere
-
--- a check that names no place, in front of others that name none
-gate-unplaced : (n : ℕ) (test : Bool) (rest : Verdict) → Unplaced rest → Unplaced (gate (refusal n) test rest)
-unfolding gate
-gate-unplaced n true rest u = u
-gate-unplaced n false rest u = refl
-
--- what a slot that is carried out answers is no refusal
-slot-not-refused : (stamp : ℕ) (g : Grant) (r : Refusal) → refused r ≡ slotAnswer stamp g → ⊥
-slot-not-refused stamp Nobody r e = let z : _≡_ {A = ℕ} 0 1 = cc in omega arith
-slot-not-refused stamp (Place p) r e = let z : _≡_ {A = ℕ} 0 1 = cc in omega arith
-
--- nor is what any call that is carried out answers
-done-not-refused : (s : Arbiter) (c : Call) (r : Refusal) → refused r ≡ done s c .answer → ⊥
-unfolding done
-done-not-refused s (post p count) r e = let z : _≡_ {A = ℕ} 0 1 = cc in omega arith
-done-not-refused s slot r e = slot-not-refused (s .slot .0) (grantOf s) r e
-
--- so a refusal comes from the verdict
-outcome-unplaced : (v : Verdict) (s : Arbiter) (c : Call) (r : Refusal) → Unplaced v → refused r ≡ outcome v s c .answer → r .place ≡ named.Nowhere
-outcome-unplaced faultless s c r u e = absurd (done-not-refused s c r e)
-outcome-unplaced (fault q) s c r u e = let same : r ≡ q = cc in rw same u
-
--- 11, 21 and 22 name no place
-rule-unplaced : (s : Arbiter) (c : Call) → Unplaced (ruleVerdict s c)
-unfolding ruleVerdict
-rule-unplaced s (post p count) = gate-unplaced 11 _ _ (gate-unplaced 21 _ faultless tt)
-rule-unplaced s slot = gate-unplaced 22 _ faultless tt
-
--- and neither does 23, in front of them
-called-unplaced : (limit : ℕ) (s : Arbiter) (c : Call) (r : Refusal) → refused r ≡ called limit s c .answer → r .place ≡ named.Nowhere
-unfolding called
-called-unplaced limit s c r e =
-    outcome-unplaced (gate (refusal 23) (sound limit s) (ruleVerdict s c)) s c r
-    (gate-unplaced 23 (sound limit s) (ruleVerdict s c) (rule-unplaced s c)) e
-
--- so the number that tells the place of a refused call is 0, and fits
-pub refused-place-fits : (limit : ℕ) (s next : Arbiter) (c : Call) (r : Refusal) → _≡_ {A = Result Arbiter Answer} (record { state = next; answer = refused r }) (called limit s c)
-    → placeWord (r .place) < 2 ^ 64
-unfolding placeWord
-refused-place-fits limit s next c r e = rw (called-unplaced limit s c r (ap (λ (x : Result Arbiter Answer). x .answer) e)) (omega arith)
+use Rattle.replay.specs.Replay.{callOf, callsOf, madeCalls, answerWords, wordsOf, writtenOver, afterCalls, callsFrom, continued, replay, replayedOf, listed, Makes}
 
 -- ---- one call
 

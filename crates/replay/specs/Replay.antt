@@ -4,12 +4,10 @@
 use mathlib.Core.Path.{_≡_}
 use mathlib.Core.Bool.{Bool, true, false}
 use mathlib.Core.List.{List, [], _∷_, _++_}
-use Prim.Native.Nat.{ℕ, zero, suc, _+_, _/_}
+use Prim.Native.Nat.{ℕ, zero, suc, _/_}
 use lib.ListN.{length, take, drop}
 use Rattle.lists.specs.Choices.{pick}
 use Rattle.lists.specs.Runs.{Result, end, answers}
-use Rattle.arbiter.specs.declared.refusals.Named.{Named}
-use Rattle.arbiter.specs.declared.refusals.Named.the-variants as named
 use Rattle.arbiter.specs.declared.table.Table.{Table}
 use Rattle.arbiter.specs.declared.state.Arbiter.{Arbiter}
 use Rattle.arbiter.specs.declared.start.StartResult as code-result
@@ -35,17 +33,12 @@ callsOf (what ∷ place ∷ count ∷ calls) = callOf what place count ∷ calls
 unfoldable pub madeCalls : (calls old : List ℕ) → List Call
 madeCalls calls old = take (length old / 3) (callsOf calls)
 
--- one more than the place that a refusal names, or 0 where it names none
-unfoldable pub placeWord : Named → ℕ
-placeWord named.Nowhere = 0
-placeWord (named.Place p) = p + 1
-
--- an answer is three numbers, and the first says which answer it is
+-- an answer is three numbers, and the first says which answer it is; no refusal of a call names a place
 unfoldable pub answerWords : Answer → List ℕ
 answerWords accepted = 0 ∷ 0 ∷ 0 ∷ []
 answerWords (granted stamp p) = 1 ∷ stamp ∷ p ∷ []
 answerWords (idle stamp) = 2 ∷ stamp ∷ 0 ∷ []
-answerWords (refused r) = 3 ∷ r .number ∷ placeWord (r .place) ∷ []
+answerWords (refused r) = 3 ∷ r .number ∷ 0 ∷ []
 
 -- the numbers of the answers, in order
 unfoldable pub wordsOf : List Answer → List ℕ

@@ -1,7 +1,6 @@
 // A start and a list of calls from it, each on the state that the one before handed back. Calls and answers are plain numbers in
 // lists that the caller lends: there is no heap to keep them on, and every language can lend a list of numbers.
 use arbiter::refusals::Cause;
-use arbiter::refusals::Named;
 use arbiter::start::StartAnswer;
 use arbiter::start::StartResult;
 use arbiter::state::Arbiter;
@@ -13,12 +12,12 @@ use calls::post::post;
 use calls::slot::SlotAnswer;
 use calls::slot::slot;
 ghost use mathlib.Core.Path.{_≡_};
-ghost use Prim.Native.Nat.{_/_, _<_, _^_, min};
+ghost use Prim.Native.Nat.{_/_, min};
 ghost use Rattle.arbiter.specs.Limits.{maxPlaces};
 ghost use Rattle.arbiter.specs.Refusals.{refusalOf};
 ghost use Rattle.arbiter.specs.Answers.{refused};
 ghost use Rattle.calls.specs.Calls.{post, slot, called};
-ghost use Rattle.replay.specs.Replay.{callOf, placeWord, answerWords, afterCalls, callsFrom, replay, replayedOf, listed, Makes};
+ghost use Rattle.replay.specs.Replay.{callOf, answerWords, afterCalls, callsFrom, replay, replayedOf, listed, Makes};
 
 // An answer as three numbers.
 struct Words(u64, u64, u64);
@@ -29,25 +28,12 @@ struct Made {
     words: Words,
 }
 
-// One more than the place, so that 0 can say that there is none. No refusal of a call names a place, so the sum always fits.
-fn place_word(n: Named) -> u64
-    requires { ⌜ placeWord n < 2 ^ 64 ⌝ }
-    ensures { λ r. ⌜ r ≡ placeWord n ⌝ }
-{
-    match n {
-        Named::Nowhere => 0,
-        Named::Place(p) => (p as u64) + 1,
-    }
-}
-
-// The cause is not among the numbers: the refusal's number says whether it was the input or the state.
+// No refusal of a call names a place, and its number says whether the input or the state caused it: the number is all there is.
 fn refusal_words(c: Cause) -> Words
-    requires { ⌜ placeWord (refusalOf c .place) < 2 ^ 64 ⌝ }
     ensures { λ w. ⌜ listed w ≡ answerWords (refused (refusalOf c)) ⌝ }
 {
     let r = c.refusal();
-    let n = r.place;
-    Words(3, r.number as u64, place_word(n))
+    Words(3, r.number as u64, 0)
 }
 
 fn make_post(s: Arbiter, place: u32, count: u32) -> Made
@@ -136,7 +122,7 @@ fn make_calls(s: Arbiter, calls: &[u32], answers: &mut [u64]) -> Arbiter
 // A start, and the calls from it, as many as their answers have room for. The state handed back is the one after the calls, and
 // the answer is the start's; a refused start makes no call and writes nothing. A call is three numbers: 0 for a slot or any
 // other for a post, the place, and the count. An answer is three numbers: 0, 0, 0 for accepted; 1, the stamp and the place for
-// granted; 2, the stamp and 0 for idle; 3, the refusal's number and one more than its place, or 0 where it names none.
+// granted; 2, the stamp and 0 for idle; 3, the refusal's number and 0 for refused.
 pub fn replay(t: Table, first: Slots, calls: &[u32], answers: &mut [u64]) -> StartResult
     ensures { λ r. ⌜ replayedOf r (now (answers .exit)) ≡ replay maxPlaces t (first .0) (now (calls .entry)) (now (answers .entry)) ⌝ }
 {

@@ -1,10 +1,9 @@
 -- `replay::make_post` meets its contract. By the case of the post's answer; no refusal of a call names a place. Assumes nothing.
 use mathlib.Core.Path.{refl}
 use borrow.Author.Needs.{needs}
-use Rattle.arbiter.specs.Limits.{maxPlaces}
 use Rattle.arbiter.specs.Answers.{accepted}
 use Rattle.replay.specs.Replay.{answerWords}
-use Rattle.replay.proofs.Replays.{refused-place-fits, makes}
+use Rattle.replay.proofs.Replays.{makes}
 use Rattle.replay.proofs.make_post.Statement.{statement}
 use Rattle.replay.proofs.make_post.Tie as tie
 
@@ -18,7 +17,7 @@ enum-known-a : tie.Need-enum-known-a
 enum-known-a c = search needs
 
 refusal-words-requires : tie.Need-refusal-words-requires
-refusal-words-requires c κs = refused-place-fits maxPlaces _ _ _ _ (rw (c .before .a .given .1) at (c .before .before .before .before .post .ensures))
+refusal-words-requires c κs = search needs
 
 returns : tie.Need-returns
 unfolding answerWords

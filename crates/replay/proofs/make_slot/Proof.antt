@@ -1,9 +1,8 @@
 -- `replay::make_slot` meets its contract. By the case of the slot's answer; no refusal of a call names a place. Assumes nothing.
 use mathlib.Core.Path.{refl}
 use borrow.Author.Needs.{needs}
-use Rattle.arbiter.specs.Limits.{maxPlaces}
 use Rattle.replay.specs.Replay.{answerWords}
-use Rattle.replay.proofs.Replays.{refused-place-fits, makes}
+use Rattle.replay.proofs.Replays.{makes}
 use Rattle.replay.proofs.make_slot.Statement.{statement}
 use Rattle.replay.proofs.make_slot.Tie as tie
 
@@ -20,7 +19,7 @@ enum-known-a-3 : tie.Need-enum-known-a-3
 enum-known-a-3 c = search needs
 
 refusal-words-requires : tie.Need-refusal-words-requires
-refusal-words-requires c κs = refused-place-fits maxPlaces _ _ _ _ (rw (c .before .a3 .given .1) at (c .before .before .before .before .slot .ensures))
+refusal-words-requires c κs = search needs
 
 returns : tie.Need-returns
 unfolding answerWords
