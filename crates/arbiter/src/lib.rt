@@ -2,10 +2,10 @@
 // and start. What calls then do to a state stands in the crate calls.
 
 pub mod admission;
-pub mod figures;
+mod figures;
 pub mod refusals;
 pub mod start;
 pub mod state;
-pub mod sums;
+mod sums;
 pub mod table;
 pub mod units;

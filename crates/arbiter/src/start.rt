@@ -1,4 +1,4 @@
-// What a start answers, and the states it hands back.
+// The parts of a start: what it answers, and the states it hands back. `Arbiter::start` stands with the type.
 use crate::refusals::Cause;
 use crate::state::Account;
 use crate::state::Arbiter;

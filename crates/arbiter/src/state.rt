@@ -25,7 +25,7 @@ pub struct Account {
     pub backlog: Transfers,
 }
 
-// The state: the table, the present slot number and the account of each place; past place N-1 all is 0.
+// The state: the table, the present slot number and the account of each place. Past place N-1 all must be 0: test 23.
 pub struct Arbiter {
     pub table: Table,
     pub slot: Slots,

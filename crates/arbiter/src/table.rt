@@ -24,7 +24,7 @@ pub struct Requestor {
     pub within: Slots,
 }
 
-// D, N and the rows; those past place N-1 are 0.
+// D, N and the rows. Those past place N-1 must be 0: check 2.
 pub struct Table {
     pub denominator: u32,
     pub count: usize,
@@ -151,7 +151,7 @@ fn check_rate_sum(t: Table) -> Verdict
 }
 
 // Checks 1 to 6.
-pub fn check_table(t: Table) -> Verdict
+pub(crate) fn check_table(t: Table) -> Verdict
     ensures { λ v. ⌜ verdictOf v ≡ tableVerdict maxPlaces t ⌝ }
 {
     let d = t.denominator;

@@ -6,8 +6,7 @@ use native.Mathlib.Nat.{min-eq-right, min-eq-left, le-of-lt}
 use native.Mathlib.Omega.{arith}
 use borrow.Author.Tests.{ltb-true, leb-true, leb-false, lt-ltb, le-ltb}
 use lib.Dec.{ltb, leb}
-use Rattle.lists.specs.Choices.{cases}
-use Rattle.lists.proofs.Tests.{true-false}
+use Rattle.lists.proofs.Tests.{cases, true-false}
 use Rattle.arbiter.specs.declared.table.Requestor.{Requestor}
 use Rattle.arbiter.specs.declared.state.Account.{Account}
 use Rattle.arbiter.specs.State.{backlog}

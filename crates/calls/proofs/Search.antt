@@ -10,8 +10,7 @@ use borrow.Author.Tests.{eqb-true, eqb-false}
 use lib.Dec.{eqb}
 use lib.ListN.{length, take}
 use lib.Seq.{getD-take}
-use Rattle.lists.specs.Choices.{cases}
-use Rattle.lists.proofs.Tests.{true-false}
+use Rattle.lists.proofs.Tests.{cases, true-false}
 use Rattle.arbiter.specs.declared.table.Requestor.{Requestor}
 use Rattle.arbiter.specs.declared.state.Account.{Account}
 use Rattle.arbiter.specs.State.{noAccount, accountAt}

@@ -13,8 +13,8 @@ use Rattle.arbiter.specs.Table.{requestorsOf}
 use Rattle.arbiter.specs.State.{credit, accountAt}
 use Rattle.arbiter.proofs.Sound.{Sound}
 use Rattle.calls.specs.Calls.{Call, ruled, called}
-use Rattle.guarantees.specs.Counts.{slotsIn, grantsTo, Waits, Accepted}
-use Rattle.guarantees.specs.Demand3.{Floor, entered, heard, ruledEntered, Demand-3}
+use Rattle.guarantees.specs.Counts.{slotsIn, grantsTo, Waits, Accepted, stateAfter, heardFrom}
+use Rattle.guarantees.specs.Demand3.{Floor, ruledAfter, Demand-3}
 use Rattle.guarantees.specs.SharperFloor.{Sharp}
 use Rattle.guarantees.proofs.Sound.{end-ruled, answers-ruled}
 use Rattle.guarantees.proofs.Start.{entered-sound, entered-table, entered-ruled, answered-ruled}
@@ -39,21 +39,21 @@ floor-from limit T s on v inside p place waits enters =
 
 -- from an accepted start
 module _ (limit : ℕ) (t : Table) (first : ℕ) (a : Accepted limit t first) (before inside : List Call) where
-  heard-ruled : heard limit t first before inside ≡ answers ruled (ruledEntered limit t first before inside) inside
+  heard-ruled : heardFrom limit (stateAfter limit t first before) inside ≡ answers ruled (ruledAfter t first before) inside
   heard-ruled = ap (λ s. answers (called limit) s inside) (entered-ruled limit t first a before) ∙ answers-ruled limit _ inside (entered-sound limit t first a before)
 
-  left-ruled : end (called limit) (entered limit t first before inside) inside ≡ end ruled (ruledEntered limit t first before inside) inside
+  left-ruled : end (called limit) (stateAfter limit t first before) inside ≡ end ruled (ruledAfter t first before) inside
   left-ruled = ap (λ s. end (called limit) s inside) (entered-ruled limit t first a before) ∙ end-ruled limit _ inside (entered-sound limit t first a before)
 
 pub demand-3 : Demand-3
 demand-3 limit t first a before inside =
-    let s = ruledEntered limit t first before inside in
+    let s = ruledAfter t first before in
     let on = entered-table limit t first a before in
     let v = entered-sound limit t first a before in
     record {
       entered-by-rule = entered-ruled limit t first a before;
       before-by-rule = answered-ruled limit t first a before;
-      heard-by-rule = heard-ruled limit t first a before inside;
+      inside-by-rule = heard-ruled limit t first a before inside;
       left-by-rule = left-ruled limit t first a before inside;
       ceiling = λ k least most. rw (heard-ruled limit t first a before inside) (ceiling-from limit t s on v inside k (omega arith));
       floor = λ p place waits enters. rw (heard-ruled limit t first a before inside) (floor-from limit t s on v inside p (omega arith) waits (omega arith));

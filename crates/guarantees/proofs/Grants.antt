@@ -2,7 +2,7 @@
 use mathlib.Core.Path.{_≡_, refl}
 use Prim.Native.Nat.{ℕ, suc, _<_}
 use lib.Dec.{ltb, leb·suc-zero, leb·suc-suc, eqb·suc-zero, eqb·suc-suc}
-use Rattle.lists.specs.Choices.{cases}
+use Rattle.lists.proofs.Tests.{cases}
 use Rattle.arbiter.specs.declared.state.Arbiter.{Arbiter}
 use Rattle.arbiter.specs.Answers.{Answer, accepted, granted, idle, refused}
 use Rattle.arbiter.specs.State.{backlog, accountAt}

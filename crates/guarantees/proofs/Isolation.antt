@@ -9,9 +9,9 @@ use borrow.Author.Tests.{ltb-true, ltb-false, lt-ltb}
 use lib.Dec.{ltb, leb·suc-suc, leb·suc-zero}
 use lib.ListN.{take}
 use lib.Seq.{getD-set-other, take-take, getD-take, take-set-le, take-set-lt}
-use Rattle.lists.specs.Choices.{pick, cases}
+use Rattle.lists.specs.Choices.{pick}
+use Rattle.lists.proofs.Tests.{cases, true-false}
 use Rattle.lists.specs.Runs.{Result}
-use Rattle.lists.proofs.Tests.{true-false}
 use Rattle.arbiter.specs.declared.table.Requestor.{Requestor}
 use Rattle.arbiter.specs.declared.state.Account.{Account}
 use Rattle.arbiter.specs.declared.state.Arbiter.{Arbiter}

@@ -8,7 +8,7 @@ use borrow.Author.Tests.{eqb-true}
 use lib.Dec.{eqb}
 use lib.ListN.{length, take, drop, length-set}
 use lib.Seq.{take-take, drop-set-lt}
-use Rattle.lists.specs.Choices.{cases}
+use Rattle.lists.proofs.Tests.{cases}
 use Rattle.lists.specs.Sums.{total, every}
 use Rattle.lists.specs.Runs.{end, answers}
 use Rattle.lists.proofs.Runs.{keeps, same-end, same-answers}
@@ -28,9 +28,6 @@ use Rattle.guarantees.proofs.Step.{by-kind, post-place, post-fits, fill
 module _ (limit : ℕ) (s : Arbiter) where
   pub sound-of : Shaped limit s → sound limit s ≡ true → Sound limit s
   sound-of shape e = sound-open limit s (shape .rows) (shape .accounts) e
-
-  pub shape-of : Sound limit s → Shaped limit s
-  shape-of v = record { rows = v .rows; accounts = v .accounts }
 
   module _ (v : Sound limit s) where
     fair-table : Fair limit (s .table)
@@ -108,7 +105,3 @@ module _ (limit : ℕ) where
 
   pub answers-ruled : (s : Arbiter) (calls : List Call) → Sound limit s → answers (called limit) s calls ≡ answers ruled s calls
   answers-ruled = same-answers (called limit) ruled (Sound limit) call-ruled sound-next
-
-  pub called-ruled : (s : Arbiter) → Shaped limit s → sound limit s ≡ true → (calls : List Call)
-      → (end (called limit) s calls ≡ end ruled s calls) × (answers (called limit) s calls ≡ answers ruled s calls)
-  called-ruled s shape e calls = (end-ruled s calls (sound-of limit s shape e), answers-ruled s calls (sound-of limit s shape e))

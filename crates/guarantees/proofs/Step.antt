@@ -8,7 +8,8 @@ use borrow.Author.Tests.{ltb-true, leb-true, eqb-true, eqb-false}
 use lib.Dec.{eqb}
 use lib.ListN.{length, take}
 use lib.Seq.{getD-set-same, getD-set-other}
-use Rattle.lists.specs.Choices.{pick, cases}
+use Rattle.lists.specs.Choices.{pick}
+use Rattle.lists.proofs.Tests.{cases}
 use Rattle.lists.specs.Sums.{total}
 use Rattle.lists.proofs.Sums.{total-take-set, at-set}
 use Rattle.arbiter.specs.declared.refusals.Refusal.{Refusal}

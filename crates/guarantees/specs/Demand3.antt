@@ -11,7 +11,6 @@ use Rattle.lists.specs.Runs
 use Rattle.arbiter.specs.declared.table.Requestor.{Requestor}
 use Rattle.arbiter.specs.declared.table.Table.{Table}
 use Rattle.arbiter.specs.declared.state.Arbiter.{Arbiter}
-use Rattle.arbiter.specs.Answers.{Answer}
 use Rattle.arbiter.specs.Table.{rate, burst, requestorsOf, requestorAt}
 use Rattle.arbiter.specs.Figures.{burstsAbove, rateLeft}
 use Rattle.arbiter.specs.State.{credit, accountAt}
@@ -36,30 +35,25 @@ Floor d rs p L g = n * R * L ≤ R * d * g + n * B
     B : ℕ
     B = burstsAbove p rs
 
-module _ (limit : ℕ) (t : Table) (first : ℕ) (before inside : List Call) where
-  -- the state that enters the stretch, and the stretch's answers
-  abbrev pub entered : Arbiter
-  entered = stateAfter limit t first before
+-- what the rule works out from the table, the first slot number and the calls alone
+abbrev pub ruledAfter : Table → ℕ → List Call → Arbiter
+ruledAfter t first calls = Runs.end ruled (opening t first) calls
 
-  abbrev pub heard : List Answer
-  heard = heardFrom limit entered inside
-
-  -- what the rule works out from the table, the first slot number and the calls alone
-  abbrev pub ruledEntered : Arbiter
-  ruledEntered = Runs.end ruled (opening t first) before
-
-  pub record Demand3 : Type 0 where
-    -- (i) states and answers are the rule's
-    pub entered-by-rule : entered ≡ ruledEntered
-    pub before-by-rule : Runs.answers (called limit) (startState limit t first) before ≡ Runs.answers ruled (opening t first) before
-    pub heard-by-rule : heard ≡ Runs.answers ruled ruledEntered inside
-    pub left-by-rule : Runs.end (called limit) entered inside ≡ Runs.end ruled ruledEntered inside
-    -- (ii) the ceiling
-    pub ceiling : (k : ℕ) → 1 ≤ k → k ≤ t .count → Ceiling (t .denominator) (requestorsOf t) k (slotsIn heard) (grantsToFirst k heard)
-    -- (iii) the floor
-    pub floor : (p : ℕ) → p < t .count → Waits p ruledEntered inside
-        → t .denominator ≤ credit (accountAt p (ruledEntered .accounts))
-        → Floor (t .denominator) (requestorsOf t) p (slotsIn heard) (grantsTo p heard)
+pub record Demand3 (limit : ℕ) (t : Table) (first : ℕ) (before inside : List Call) : Type 0 where
+  -- (i) states and answers are the rule's, where the stretch begins and along it
+  pub entered-by-rule : stateAfter limit t first before ≡ ruledAfter t first before
+  pub before-by-rule : heardFrom limit (startState limit t first) before ≡ Runs.answers ruled (opening t first) before
+  pub inside-by-rule : heardFrom limit (stateAfter limit t first before) inside ≡ Runs.answers ruled (ruledAfter t first before) inside
+  pub left-by-rule : Runs.end (called limit) (stateAfter limit t first before) inside ≡ Runs.end ruled (ruledAfter t first before) inside
+  -- (ii) the ceiling
+  pub ceiling : (k : ℕ) → 1 ≤ k → k ≤ t .count
+      → Ceiling (t .denominator) (requestorsOf t) k
+      (slotsIn (heardFrom limit (stateAfter limit t first before) inside)) (grantsToFirst k (heardFrom limit (stateAfter limit t first before) inside))
+  -- (iii) the floor
+  pub floor : (p : ℕ) → p < t .count → Waits p (ruledAfter t first before) inside
+      → t .denominator ≤ credit (accountAt p (ruledAfter t first before .accounts))
+      → Floor (t .denominator) (requestorsOf t) p
+      (slotsIn (heardFrom limit (stateAfter limit t first before) inside)) (grantsTo p (heardFrom limit (stateAfter limit t first before) inside))
 
 abbrev pub Demand-3 : Type 0
 Demand-3 = (limit : ℕ) (t : Table) (first : ℕ) → Accepted limit t first → (before inside : List Call) → Demand3 limit t first before inside

@@ -1,5 +1,5 @@
--- Not in document 01, and what its floor and need are proved through. The floor before its premise on credit is used: whatever credit c a place enters a stretch with, one of two bounds on its grants
--- holds. Demand 3's floor is what both come to where c is at least D.
+-- Not in document 01: what its floor and its need are proved through. Whatever credit c a place enters a stretch with, one of two
+-- bounds on its grants holds; where c is at least D, both come to the floor.
 use mathlib.Core.Path.{_≡_}
 use mathlib.Core.Bool.{true}
 use mathlib.Core.List.{List}

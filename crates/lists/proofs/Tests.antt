@@ -11,8 +11,13 @@ use borrow.Author.Tests.{leb-true, eqb-true, eqb-false}
 use lib.Dec.{leb, eqb}
 use lib.ListN.{length, getD, take, drop, drop-of-length-le}
 use lib.Seq.{drop-cons}
-use Rattle.lists.specs.Choices.{inRange, cases}
+use Rattle.lists.specs.Choices.{inRange}
 use Rattle.lists.specs.Sums.{every, upTo}
+
+-- a proof by the two values of a test
+pub cases {ℓ} : {X : Type ℓ} (b : Bool) → (b ≡ true → X) → (b ≡ false → X) → X
+cases true f g = f refl
+cases false f g = g refl
 
 pub true-false : {X : Type 0} → true ≡ false → X
 true-false e = let z : _≡_ {A = ℕ} 0 1 = cc in absurd (omega arith)

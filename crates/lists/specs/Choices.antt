@@ -1,5 +1,4 @@
 -- A choice between two values by a test.
-use mathlib.Core.Path.{_≡_, refl}
 use mathlib.Core.Bool.{Bool, true, false, _&&_}
 use Prim.Native.Nat.{ℕ}
 use lib.Dec.{leb}
@@ -12,8 +11,3 @@ pick false x y = y
 -- low ≤ x ≤ high
 abbrev pub inRange : ℕ → ℕ → ℕ → Bool
 inRange low high x = leb low x && leb x high
-
--- a proof by the two values of a test
-pub cases {ℓ} : {X : Type ℓ} (b : Bool) → (b ≡ true → X) → (b ≡ false → X) → X
-cases true f g = f refl
-cases false f g = g refl

@@ -9,7 +9,7 @@ use borrow.Author.Tests.{leb-true, leb-false}
 use lib.Dec.{leb}
 use lib.ListN.{length, getD, set, take, length-append, length-set}
 use lib.Seq.{take-suc, take-all, length-take-le}
-use Rattle.lists.specs.Choices.{cases}
+use Rattle.lists.proofs.Tests.{cases}
 use Rattle.lists.specs.Runs.{Result, end, answers}
 use Rattle.lists.proofs.Runs.{end-more, answers-more, length-answers}
 use Rattle.lists.proofs.Overwriting.{stored-behind}
