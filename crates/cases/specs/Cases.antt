@@ -3,10 +3,10 @@ use mathlib.Core.Path.{_≡_}
 use mathlib.Core.List.{List, _++_, map}
 use Rattle.cases.specs.Rows.{Row, reply}
 use Rattle.cases.specs.BenchRows.{benchRows}
-use Rattle.cases.specs.EdgeRows.{limitRows, orderRows, stateRows, ruleRows}
+use Rattle.cases.specs.EdgeRows.{limitRows, orderRows, stateRows, ruleRows, replayRows}
 
 abbrev pub rows : List Row
-rows = benchRows ++ limitRows ++ orderRows ++ stateRows ++ ruleRows
+rows = benchRows ++ limitRows ++ orderRows ++ stateRows ++ ruleRows ++ replayRows
 
 abbrev pub All-pass : Type 0
 All-pass = map (λ r. reply (r .asked)) rows ≡ map (λ r. r .written) rows

@@ -9,7 +9,7 @@ use Rattle.arbiter.specs.Answers.{accepted, granted, idle, refused}
 use Rattle.arbiter.specs.Table.{noRequestor}
 use Rattle.arbiter.specs.State.{noAccount}
 use Rattle.calls.specs.Calls.{post, slot}
-use Rattle.cases.specs.Rows.{row, account, tableOf, stateOf, Row, admission, calling, asking, standing, found, told, answered}
+use Rattle.cases.specs.Rows.{row, account, tableOf, stateOf, Row, admission, calling, asking, replaying, standing, found, told, answered, replayed}
 use Rattle.cases.specs.BenchRows.{tableT, tableTShort}
 
 -- T with this row at place 0, or at place 1
@@ -85,10 +85,17 @@ orderRows =
     ∷ record { asked = admission (tablePastTwo noRequestor); written = found (fault (refusalAt 3 0)) }
     -- place by place: 5 at place 0 ahead of 3 at place 1
     ∷ record { asked = admission (tableOf 4 2 (row 1 8 0 4 ∷ row 0 4 1 7 ∷ [])); written = found (fault (refusalAt 5 0)) }
+    -- 1 ahead of 2; inside a row 3 ahead of 4 ahead of 5; 5 at the last place ahead of 6
+    ∷ record { asked = admission (tableOf 0 17 []); written = found (fault (refusal 1)) }
+    ∷ record { asked = admission (tableSecond (row 0 3 0 0)); written = found (fault (refusalAt 3 1)) }
+    ∷ record { asked = admission (tableSecond (row 1 3 0 0)); written = found (fault (refusalAt 4 1)) }
+    ∷ record { asked = admission (tableOf 4 2 (row 3 8 1 100 ∷ row 3 4 0 100 ∷ [])); written = found (fault (refusalAt 5 1)) }
     -- 6 ahead of 7, 7 ahead of 12, and of two places that fail 7 the lower
     ∷ record { asked = admission (tableOf 4 2 (row 3 8 1 1 ∷ row 3 4 1 7 ∷ [])); written = found (fault (refusal 6)) }
     ∷ record { asked = calling tableTShort 4611686018427387905 []; written = told (refused (refusalAt 7 1)) [] (standing 0 (0 ∷ 0 ∷ []) (0 ∷ 0 ∷ [])) }
     ∷ record { asked = admission (tableOf 4 2 (row 1 8 1 3 ∷ row 1 4 1 6 ∷ [])); written = found (fault (refusalAt 7 0)) }
+    -- 11 ahead of 21
+    ∷ record { asked = calling tableT 0 (post 2 65536 ∷ []); written = told accepted (refused (refusal 11) ∷ []) (standing 0 (8 ∷ 4 ∷ []) (0 ∷ 0 ∷ [])) }
     -- 23 ahead of 22 and of 11
     ∷ record {
       asked = asking (stateOf tableT 4611686018427387904 (account 9 0 ∷ account 3 0 ∷ [])) slot;
@@ -176,5 +183,27 @@ ruleRows =
     ∷ record {
       asked = calling tableT 5 (slot ∷ post 2 1 ∷ post 0 65536 ∷ slot ∷ []);
       written = told accepted (idle 5 ∷ refused (refusal 11) ∷ refused (refusal 21) ∷ idle 6 ∷ []) (standing 7 (8 ∷ 4 ∷ []) (0 ∷ 0 ∷ []));
+    }
+    ∷ []
+
+-- calls and answers as lent numbers
+unfoldable pub replayRows : List Row
+replayRows =
+    -- two posts, a post to an absent place and two slots: five calls, room for four answers, and one number left over in each list
+    record {
+      asked = replaying tableT 7
+          (1 ∷ 0 ∷ 3 ∷ 9 ∷ 1 ∷ 3 ∷ 1 ∷ 2 ∷ 1 ∷ 0 ∷ 5 ∷ 5 ∷ 0 ∷ 0 ∷ 0 ∷ 1 ∷ [])
+          (90 ∷ 91 ∷ 92 ∷ 93 ∷ 94 ∷ 95 ∷ 96 ∷ 97 ∷ 98 ∷ 99 ∷ 100 ∷ 101 ∷ 102 ∷ []);
+      written = replayed accepted (0 ∷ 0 ∷ 0 ∷ 0 ∷ 0 ∷ 0 ∷ 3 ∷ 11 ∷ 0 ∷ 1 ∷ 7 ∷ 0 ∷ 102 ∷ []) (standing 8 (5 ∷ 5 ∷ []) (2 ∷ 3 ∷ []));
+    }
+    -- an idle slot; more room than calls
+    ∷ record {
+      asked = replaying tableT 7 (0 ∷ 0 ∷ 0 ∷ []) (90 ∷ 91 ∷ 92 ∷ 93 ∷ 94 ∷ 95 ∷ []);
+      written = replayed accepted (2 ∷ 7 ∷ 0 ∷ 93 ∷ 94 ∷ 95 ∷ []) (standing 8 (8 ∷ 4 ∷ []) (0 ∷ 0 ∷ []));
+    }
+    -- a refused start makes no call and writes nothing
+    ∷ record {
+      asked = replaying tableTShort 7 (0 ∷ 0 ∷ 0 ∷ []) (90 ∷ 91 ∷ 92 ∷ []);
+      written = replayed (refused (refusalAt 7 1)) (90 ∷ 91 ∷ 92 ∷ []) (standing 0 (0 ∷ 0 ∷ []) (0 ∷ 0 ∷ []));
     }
     ∷ []

@@ -17,6 +17,7 @@ use Rattle.arbiter.specs.State.{credit, backlog, noAccount, accountAt}
 use Rattle.arbiter.specs.Start.{start}
 use Rattle.calls.specs.Calls.{Call, post, slot, called}
 use Rattle.guarantees.specs.Counts.{slotsIn, grantsTo, stateAfter, heardFrom}
+use Rattle.replay.specs.Replay.{replay}
 
 -- n, b, j and L of one place
 abbrev pub row : ℕ → ℕ → ℕ → ℕ → Requestor
@@ -45,6 +46,8 @@ pub data Question : Type 0 where
   calling : Table → (first : ℕ) → List Call → Question
   -- what one call on a state answers, and how the state stands then
   asking : Arbiter → Call → Question
+  -- a lent list of calls as numbers, folded from a start into a lent list of answers
+  replaying : Table → (first : ℕ) → (calls old : List ℕ) → Question
   -- B, R, the wait and the finish figure of a place for j transfers
   figures : Table → (place j : ℕ) → Question
   -- the floor for a place over `inside`, entered after `before` from slot 0
@@ -63,6 +66,7 @@ pub data Reply : Type 0 where
   found : Verdict → Reply
   told : (started : Answer) (answers : List Answer) → Standing → Reply
   answered : Answer → Standing → Reply
+  replayed : (started : Answer) (answers : List ℕ) → Standing → Reply
   figured : (B R wait finish : ℕ) → Reply
   -- the credit on entry, whether the place waits in every slot, R × D × g, and n × (R × L − B)
   floored : (credit : ℕ) (waits : Bool) (granted owed : ℕ) → Reply
@@ -87,6 +91,9 @@ reply (calling t first calls) =
     let begun = start maxPlaces t first in
     told (begun .answer) (heardFrom maxPlaces (begun .state) calls) (standsAt (t .count) (stateAfter maxPlaces t first calls))
 reply (asking s c) = answered (called maxPlaces s c .answer) (standsAt (s .table .count) (called maxPlaces s c .state))
+reply (replaying t first calls old) =
+    let r = replay maxPlaces t first calls old in
+    replayed (r .answer) (r .words) (standsAt (t .count) (r .state))
 reply (figures t p j) =
     let B = burstsAbove p (requestorsOf t) in
     let R = rateLeft (t .denominator) p (requestorsOf t) in
