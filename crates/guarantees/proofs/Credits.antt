@@ -35,7 +35,7 @@ pub slotted-rise : (d k : ℕ) (rs : List Requestor) (accounts : List Account)
 unfolding total served toFirst
 slotted-rise d zero rs accounts = rw (to-first-zero (firstEligible d rs accounts)) (omega arith)
 slotted-rise d (suc k) [] accounts = rw (first-no-place d accounts, slotted-no-place d accounts) (omega arith)
-slotted-rise d (suc k) (r ∷ rs) [] = rw (first-no-account d r rs, slotted-no-account d r rs) (omega arith)
+slotted-rise d (suc k) (r ∷ rs) [] = rw (first-no-account d (r ∷ rs), slotted-no-account d (r ∷ rs)) (omega arith)
 slotted-rise d (suc k) (r ∷ rs) (a ∷ accounts) = by-head d r rs a accounts
     (λ y. rw (y .slotted-is, y .to-first-is k) (omega (arith, y .enough, after-idle-rise d k rs accounts)))
     (λ n. rw (n .slotted-is, n .to-first-is k) (omega (arith, passed-most r a, slotted-rise d k rs accounts)))
@@ -46,7 +46,7 @@ pub slotted-within : (d k : ℕ) (rs : List Requestor) (accounts : List Account)
 unfolding total
 slotted-within d zero rs accounts h roomy z = omega arith
 slotted-within d (suc k) [] accounts h roomy z = absurd (omega arith)
-slotted-within d (suc k) (r ∷ rs) [] h roomy z = rw (slotted-no-account d r rs) (omega arith)
+slotted-within d (suc k) (r ∷ rs) [] h roomy z = rw (slotted-no-account d (r ∷ rs)) (omega arith)
 slotted-within d (suc k) (r ∷ rs) (a ∷ accounts) h roomy z = by-head d r rs a accounts
     (λ y. let one = y .to-first-is k in absurd (omega arith))
     (λ n. rw (n .slotted-is) (omega (

@@ -1,11 +1,9 @@
 -- What one grant counts for a place and for the first k places, and what a slot's answer tells of its grant. Assumes nothing.
 use mathlib.Core.Path.{_≡_, refl}
-use Prim.Native.Nat.{ℕ, suc, _<_}
+use Prim.Native.Nat.{ℕ, suc}
 use lib.Dec.{ltb, leb·suc-zero, leb·suc-suc, eqb·suc-zero, eqb·suc-suc}
 use Rattle.lists.proofs.Tests.{cases}
-use Rattle.arbiter.specs.declared.state.Arbiter.{Arbiter}
 use Rattle.arbiter.specs.Answers.{Answer, accepted, granted, idle, refused}
-use Rattle.arbiter.specs.State.{backlog, accountAt}
 use Rattle.calls.specs.declared.slot.Grant.{Grant}
 use Rattle.calls.specs.declared.slot.Grant.the-variants.{Nobody, Place}
 use Rattle.calls.specs.Rule.{later}
@@ -72,7 +70,3 @@ in-any-slot P accepted h = tt
 in-any-slot P (granted stamp p) h = h
 in-any-slot P (idle stamp) h = h
 in-any-slot P (refused r) h = tt
-
--- what `Waits` asks at each call
-abbrev pub WaitsAt : ℕ → Arbiter → Answer → Type 0
-WaitsAt p s = inSlot (Unit {0}) (λ g. 0 < backlog (accountAt p (s .accounts)))

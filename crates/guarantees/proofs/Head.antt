@@ -70,14 +70,20 @@ pub slotted-no-place : (d : ℕ) (accounts : List Account) → slotted d [] acco
 unfolding slotted firstEligible after
 slotted-no-place d accounts = refl
 
-pub slotted-no-account : (d : ℕ) (r : Requestor) (rs : List Requestor) → slotted d (r ∷ rs) [] ≡ []
-unfolding slotted firstEligible after
-slotted-no-account d r rs = refl
-
 pub first-no-place : (d : ℕ) (accounts : List Account) → firstEligible d [] accounts ≡ Nobody
 unfolding firstEligible
 first-no-place d accounts = refl
 
-pub first-no-account : (d : ℕ) (r : Requestor) (rs : List Requestor) → firstEligible d (r ∷ rs) [] ≡ Nobody
+pub first-no-account : (d : ℕ) (rs : List Requestor) → firstEligible d rs [] ≡ Nobody
 unfolding firstEligible
-first-no-account d r rs = refl
+first-no-account d [] = refl
+first-no-account d (r ∷ rs) = refl
+
+pub after-no-account : (d : ℕ) (g : Grant) (rs : List Requestor) → after d g rs [] ≡ []
+unfolding after
+after-no-account d g [] = refl
+after-no-account d g (r ∷ rs) = refl
+
+pub slotted-no-account : (d : ℕ) (rs : List Requestor) → slotted d rs [] ≡ []
+unfolding slotted
+slotted-no-account d rs = after-no-account d (firstEligible d rs []) rs

@@ -26,7 +26,7 @@ use Rattle.calls.specs.Rule.{eligible, later, firstEligible, served, passed, af
 use Rattle.calls.specs.Calls.{Call, post, slot, grantOf, advanced, filled, slotAnswer, done, ruleVerdict, outcome, ruled, called}
 use Rattle.guarantees.specs.Counts.{startState}
 use Rattle.guarantees.specs.Isolation.{Isolation, Post-apart, concerns, concerning, view, Shown, shows, shown}
-use Rattle.guarantees.proofs.Head.{after-later}
+use Rattle.guarantees.proofs.Head.{after-later, first-no-account, after-no-account}
 use Rattle.guarantees.proofs.Step.{by-kind}
 use Rattle.guarantees.proofs.Sound.{sound-next, call-ruled}
 use Rattle.guarantees.proofs.Start.{start-state-sound}
@@ -70,29 +70,19 @@ view-seen m stamp (Place p) = cases (ltb p m) (λ e. rw (e, e)) (λ e. rw e)
 -- ---- the rule of a slot on the first m accounts: a requestor with no account is never granted, so the table stays whole
 
 module _ (d : ℕ) where
-  first-of-none : (rs : List Requestor) → firstEligible d rs [] ≡ Nobody
-  unfolding firstEligible
-  first-of-none [] = refl
-  first-of-none (r ∷ rs) = refl
-
   first-take : (m : ℕ) (rs : List Requestor) (accounts : List Account) → firstEligible d rs (take m accounts) ≡ seen m (firstEligible d rs accounts)
   unfolding firstEligible seen
-  first-take zero rs accounts = first-of-none rs ∙ sym (seen-by-none (firstEligible d rs accounts))
+  first-take zero rs accounts = first-no-account d rs ∙ sym (seen-by-none (firstEligible d rs accounts))
   first-take (suc m) [] accounts = refl
   first-take (suc m) (r ∷ rs) [] = refl
   first-take (suc m) (r ∷ rs) (a ∷ accounts) = cases (eligible d r a)
       (λ e. rw (e, seen-at-first m))
       (λ e. rw (e, seen-later m, first-take m rs accounts))
 
-  after-of-none : (g : Grant) (rs : List Requestor) → after d g rs [] ≡ []
-  unfolding after
-  after-of-none g [] = refl
-  after-of-none g (r ∷ rs) = refl
-
   take-after : (m : ℕ) (g : Grant) (rs : List Requestor) (accounts : List Account)
       → take m (after d g rs accounts) ≡ after d (seen m g) rs (take m accounts)
   unfolding after later seen
-  take-after zero g rs accounts = sym (after-of-none (seen zero g) rs)
+  take-after zero g rs accounts = sym (after-no-account d (seen zero g) rs)
   take-after (suc m) g [] accounts = refl
   take-after (suc m) g (r ∷ rs) [] = refl
   take-after (suc m) Nobody (r ∷ rs) (a ∷ accounts) = ap (λ l. passed r a ∷ l) (take-after m Nobody rs accounts)

@@ -19,9 +19,9 @@ use Rattle.arbiter.proofs.Sound.{Sound, rates-most, sound-fair}
 use Rattle.calls.specs.Rule.{firstEligible}
 use Rattle.calls.specs.Calls.{Call, grantOf, advanced, ruled}
 use Rattle.guarantees.proofs.Head.{slotted}
-use Rattle.guarantees.specs.Counts.{toPlace, slotsIn, grantsTo, Waits}
+use Rattle.guarantees.specs.Counts.{toPlace, slotsIn, grantsTo, Waits, WaitsAt}
 use Rattle.guarantees.specs.SharperFloor.{Sharp, Sharper, Sharper-floor}
-use Rattle.guarantees.proofs.Grants.{slotIn, grantTo, WaitsAt, slot-in, grant-to, slot-meets}
+use Rattle.guarantees.proofs.Grants.{slotIn, grantTo, slot-in, grant-to, slot-meets}
 use Rattle.guarantees.proofs.Credits.{Roomy, slotted-rise, slotted-within}
 use Rattle.guarantees.proofs.Turns.{Turn, above, own, short, turn}
 use Rattle.guarantees.proofs.Step.{by-kind, table-stands, filled-credits, filled-credit}

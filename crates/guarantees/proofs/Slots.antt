@@ -42,7 +42,7 @@ pub slotted-backlog : (d p : ℕ) (rs : List Requestor) (accounts : List Account
     → toPlace p (firstEligible d rs accounts) + backlog (accountAt p (slotted d rs accounts)) ≡ backlog (accountAt p accounts)
 unfolding toPlace served passed
 slotted-backlog d p [] accounts = rw (first-no-place d accounts, slotted-no-place d accounts) (omega arith)
-slotted-backlog d p (r ∷ rs) [] = rw (first-no-account d r rs, slotted-no-account d r rs)
+slotted-backlog d p (r ∷ rs) [] = rw (first-no-account d (r ∷ rs), slotted-no-account d (r ∷ rs))
 slotted-backlog d zero (r ∷ rs) (a ∷ accounts) = by-head d r rs a accounts
     (λ y. rw (y .slotted-is, y .to-head-is) (omega (arith, y .waiting)))
     (λ n. rw (n .slotted-is, n .to-head-is) (omega arith))

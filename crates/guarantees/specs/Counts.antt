@@ -52,9 +52,14 @@ firstSlots [] m = []
 firstSlots (a ∷ heard) zero = []
 firstSlots (a ∷ heard) (suc m) = a ∷ firstSlots heard (inSlot (suc m) (λ g. m) a)
 
--- "A place has a transfer waiting in a slot when its q is above 0 directly before that slot": so in each accepted slot
+-- "A place has a transfer waiting in a slot when its q is above 0 directly before that slot": asked of an accepted slot, not of
+-- another call
+abbrev pub WaitsAt : ℕ → Arbiter → Answer → Type 0
+WaitsAt p s = inSlot (Unit {0}) (λ g. 0 < backlog (accountAt p (s .accounts)))
+
+-- so in each accepted slot
 abbrev pub Waits : ℕ → Arbiter → List Call → Type 0
-Waits p = Runs.Each ruled (λ s. inSlot (Unit {0}) (λ g. 0 < backlog (accountAt p (s .accounts))))
+Waits p = Runs.Each ruled (WaitsAt p)
 
 -- the table and first slot number of an accepted start; an array of `limit` rows holds the table
 pub record Accepted (limit : ℕ) (t : Table) (first : ℕ) : Type 0 where
