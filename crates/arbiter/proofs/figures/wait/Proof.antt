@@ -1,10 +1,12 @@
 -- `arbiter::figures::wait` meets its contract. The checks 1 to 6 leave R at least 1, and the sums are those of the rows of
 -- the table. Assumes nothing.
-use mathlib.Core.Path.{sym, _∙_}
+use mathlib.Core.Path.{sym, ap₂, _∙_}
+use Prim.Native.Nat.{_-_}
 use native.Mathlib.Omega.{arith}
 use borrow.Author.Needs.{needs}
 use lib.ListN.{length-map}
 use Rattle.arbiter.specs.Limits.{maxPlaces}
+use Rattle.arbiter.specs.Figures.{waitOf}
 use Rattle.arbiter.proofs.Above.{Above, above}
 use Rattle.arbiter.proofs.figures.wait.Statement.{statement}
 use Rattle.arbiter.proofs.figures.wait.Tie as tie
@@ -32,8 +34,10 @@ rounded-up-requires c κs =
 
 returns : tie.Need-returns
 returns c =
-    let f = facts (c .before .before .before) in (
-      rw (f .same-rates, f .same-bursts, ← c .before .before .rates-above .ensures .0, ← c .before .bursts-above .ensures .0) (c .rounded-up .ensures .0),
+    let f = facts (c .before .before .before) in
+    let bursts = c .before .bursts-above .ensures .0 ∙ sym (f .same-bursts) in
+    let rates = c .before .before .rates-above .ensures .0 ∙ sym (f .same-rates) in (
+      c .rounded-up .ensures .0 ∙ ap₂ (λ b r. waitOf b (c .before .before .before .args .t .denominator - r)) bursts rates,
       omega (arith, f .place, f .own-rate, f .rates, f .denominator-most, c .before .before .rates-above .ensures .0, c .before .bursts-above .ensures .1, c .rounded-up .ensures .1),
     )
 

@@ -1,6 +1,7 @@
 -- `calls::slot::serve` meets its contract. An eligible place has a transfer waiting and credit and rate of at least D, so
 -- both differences fit. Assumes nothing.
 use mathlib.Core.Path.{refl}
+use native.Mathlib.Omega.{arith}
 use borrow.Author.Needs.{needs}
 use Rattle.calls.specs.Rule.{served}
 use Rattle.calls.proofs.Accounts.{eligible-true}
@@ -14,7 +15,7 @@ sub-t6 : tie.Need-sub-t6
 sub-t6 c = let a = c .before .before .before in eligible-true (a .args .r) (a .args .a) (a .args .d) (a .pre .1) .1
 
 sub-t7 : tie.Need-sub-t7
-sub-t7 c = let a = c .before .before .before .before in eligible-true (a .args .r) (a .args .a) (a .args .d) (a .pre .1) .0
+sub-t7 c = let a = c .before .before .before .before in omega (arith, eligible-true (a .args .r) (a .args .a) (a .args .d) (a .pre .1) .0)
 
 returns : tie.Need-returns
 unfolding served

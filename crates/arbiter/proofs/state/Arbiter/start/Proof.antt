@@ -2,6 +2,7 @@
 -- nothing.
 use borrow.Author.Tests.{le-leb, lt-leb}
 use borrow.Author.Needs.{needs}
+use Rattle.arbiter.specs.Limits.{maxSlot}
 use Rattle.arbiter.specs.Refusals.{gate, then}
 use Rattle.arbiter.specs.Start.{opening, startVerdict, start}
 use Rattle.arbiter.proofs.state.Arbiter.start.Statement.{statement}
@@ -24,7 +25,7 @@ refuse-requires-2 c κs = search needs
 
 returns : tie.Need-returns
 unfolding start startVerdict opening gate then
-returns c = rw (← c .before .before .before .before .before .admit .ensures, c .before .before .before .enum-told .given .1, lt-leb _ _ (c .before .if1 .taken)) (c .refuse2 .ensures)
+returns c = rw (← c .before .before .before .before .before .admit .ensures, c .before .before .before .enum-told .given .1, lt-leb _ maxSlot (c .before .if1 .taken)) (c .refuse2 .ensures)
 
 opening-accounts-requires : tie.Need-opening-accounts-requires
 opening-accounts-requires c κs = search needs
@@ -35,7 +36,7 @@ returns-2 c = rw (← c .before .before .before .before .admit .ensures, c .befo
 
 returns-3 : tie.Need-returns-3
 unfolding start startVerdict opening gate then
-returns-3 c = rw (← c .before .before .before .before .before .admit .ensures, c .before .before .before .enum-told .given .1, le-leb _ _ (c .before .if1 .left), c .opening-accounts .ensures)
+returns-3 c = rw (← c .before .before .before .before .before .admit .ensures, c .before .before .before .enum-told .given .1, le-leb _ maxSlot (c .before .if1 .left), c .opening-accounts .ensures)
 
 pub start-spec : {M : Type 1} → statement M
 start-spec =
