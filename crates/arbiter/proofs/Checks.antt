@@ -1,5 +1,5 @@
 -- What checks that find no fault say. Assumes nothing.
-use mathlib.Core.Path.{_≡_, refl}
+use mathlib.Core.Path.{_≡_, refl, ap, sym}
 use mathlib.Core.Bool.{Bool, true, false}
 use mathlib.Core.List.{List, [], _∷_}
 use Prim.Native.Nat.{ℕ, zero, suc, _+_, _≤_, _<_}
@@ -15,17 +15,28 @@ use Rattle.arbiter.specs.declared.table.Table.{Table}
 use Rattle.arbiter.specs.Limits.{maxDenominator, maxBurst, maxNeed, maxWithin}
 use Rattle.arbiter.specs.Refusals.{Verdict, faultless, fault, gate, then}
 use Rattle.arbiter.specs.Table.{rate, requestorClear, requestorAt, requestorsOf, rowVerdict, eachPlace, tailVerdict, rateSumVerdict, tableVerdict}
-use Rattle.arbiter.specs.Figures.{finish, needVerdict, admissionVerdict}
+use Rattle.arbiter.specs.Figures.{finish, finishVerdict, admissionVerdict}
+
+-- no verdict is both
+pub faultless-fault : {X : Type 0} (r : Refusal) → faultless ≡ fault r → X
+faultless-fault r e = let z : _≡_ {A = ℕ} 0 1 = cc in absurd (omega arith)
 
 pub gate-open : (r : Refusal) (test : Bool) (rest : Verdict) → gate r test rest ≡ faultless → (test ≡ true) × (rest ≡ faultless)
 unfolding gate
 gate-open r true rest e = (refl, e)
-gate-open r false rest e = let z : _≡_ {A = ℕ} 0 1 = cc in absurd (omega arith)
+gate-open r false rest e = faultless-fault r (sym e)
 
 pub then-open : (v rest : Verdict) → then v rest ≡ faultless → (v ≡ faultless) × (rest ≡ faultless)
 unfolding then
 then-open faultless rest e = (refl, e)
-then-open (fault r) rest e = let z : _≡_ {A = ℕ} 0 1 = cc in absurd (omega arith)
+then-open (fault r) rest e = faultless-fault r (sym e)
+
+-- a check whose refusal has another number does not find this one
+pub gate-not : (r other : Refusal) (test : Bool) (rest : Verdict) → (r .number ≡ other .number → ⊥) → (rest ≡ fault other → ⊥)
+    → gate r test rest ≡ fault other → ⊥
+unfolding gate
+gate-not r other true rest apart below e = below e
+gate-not r other false rest apart below e = let same : r ≡ other = cc in apart (ap (λ x. x .number) same)
 
 pub gate-passed : (r : Refusal) (test : Bool) (rest : Verdict) → test ≡ true → gate r test rest ≡ rest
 unfolding gate
@@ -41,7 +52,7 @@ gate-then r false rest = refl
 pub two-gates-fault : (r q x : Refusal) (test other : Bool) (rest : Verdict) → then (gate r test faultless) (gate q other faultless) ≡ fault x
     → gate r test (gate q other rest) ≡ fault x
 unfolding gate then
-two-gates-fault r q x true true rest e = let z : _≡_ {A = ℕ} 0 1 = cc in absurd (omega arith)
+two-gates-fault r q x true true rest e = faultless-fault x e
 two-gates-fault r q x true false rest e = e
 two-gates-fault r q x false other rest e = e
 
@@ -127,10 +138,10 @@ pub record Admitted (limit : ℕ) (t : Table) : Type 0 where
   pub need : (p : ℕ) → p < length (requestorsOf t) → finish (t .denominator) (requestorsOf t) p (requestorAt p (requestorsOf t) .need .0) ≤ requestorAt p (requestorsOf t) .within .0
 
 pub admitted : (limit : ℕ) (t : Table) → admissionVerdict limit t ≡ faultless → Admitted limit t
-unfolding admissionVerdict needVerdict
+unfolding admissionVerdict finishVerdict
 admitted limit t e =
     let a = then-open _ _ e in
     record {
       passes = a .0;
-      need = λ p h. leb-true _ _ (gate-open _ _ _ (rw (zero-add p) at (each-place-at (needVerdict (t .denominator) (requestorsOf t)) 0 (requestorsOf t) (a .1) p h)) .0);
+      need = λ p h. leb-true _ _ (gate-open _ _ _ (rw (zero-add p) at (each-place-at (finishVerdict (t .denominator) (requestorsOf t)) 0 (requestorsOf t) (a .1) p h)) .0);
     }

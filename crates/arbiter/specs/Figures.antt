@@ -38,11 +38,11 @@ unfoldable pub finish : ℕ → List Requestor → ℕ → ℕ → ℕ
 finish d rs p j = finishOf d (burstsAbove p rs) (rateLeft d p rs) (requestorAt p rs .rate) j
 
 -- check 7 of the requestor r at place p
-unfoldable pub needVerdict : ℕ → List Requestor → ℕ → Requestor → Verdict
-needVerdict d rs p r = gate (refusalAt 7 p) (leb (finish d rs p (r .need .0)) (r .within .0)) faultless
+unfoldable pub finishVerdict : ℕ → List Requestor → ℕ → Requestor → Verdict
+finishVerdict d rs p r = gate (refusalAt 7 p) (leb (finish d rs p (r .need .0)) (r .within .0)) faultless
 
 -- the checks of a table given as numbers: 1 to 6, then 7 with the lowest failing place
 unfoldable pub admissionVerdict : ℕ → Table → Verdict
 admissionVerdict limit t =
     then (tableVerdict limit t)
-    (eachPlace (needVerdict (t .denominator) (requestorsOf t)) 0 (requestorsOf t))
+    (eachPlace (finishVerdict (t .denominator) (requestorsOf t)) 0 (requestorsOf t))

@@ -20,12 +20,12 @@ use Rattle.arbiter.specs.Figures.{admissionVerdict}
 use Rattle.arbiter.specs.State.{noAccount}
 
 -- the code's answer in document 01's values
-abbrev pub answerOf : StartAnswer → Answer
-answerOf code.Started = accepted
-answerOf (code.Refused c) = refused (refusalOf c)
+abbrev pub startAnswerOf : StartAnswer → Answer
+startAnswerOf code.Started = accepted
+startAnswerOf (code.Refused c) = refused (refusalOf c)
 
 abbrev pub startResultOf : code-result.StartResult → Result Arbiter Answer
-startResultOf r = record { state = r .state; answer = answerOf (r .answer) }
+startResultOf r = record { state = r .state; answer = startAnswerOf (r .answer) }
 
 -- credit b, backlog 0
 abbrev pub fresh : Requestor → Account

@@ -24,7 +24,7 @@ abbrev pub noAccount : Account
 noAccount = record { credit = 0; backlog = record { 0 = 0 } }
 
 abbrev pub accountClear : Account → Bool
-accountClear a = eqb (a .credit) 0 && eqb (a .backlog .0) 0
+accountClear a = eqb (credit a) 0 && eqb (backlog a) 0
 
 abbrev pub backlogFits : Account → Bool
 backlogFits a = leb (backlog a) maxBacklog

@@ -10,12 +10,12 @@ ghost use Prim.Native.Nat.{_<_};
 ghost use Rattle.arbiter.specs.Limits.{maxPlaces};
 ghost use Rattle.arbiter.specs.Refusals.{verdictOf, faultless};
 ghost use Rattle.arbiter.specs.Table.{requestorAt, requestorsOf, eachPlace, tableVerdict};
-ghost use Rattle.arbiter.specs.Figures.{needVerdict, admissionVerdict};
+ghost use Rattle.arbiter.specs.Figures.{finishVerdict, admissionVerdict};
 
 // Check 7 at place p.
-fn check_need(t: Table, p: usize) -> Verdict
+fn check_finish(t: Table, p: usize) -> Verdict
     requires { ⌜ (tableVerdict maxPlaces t ≡ faultless) × (p < t .count) ⌝ }
-    ensures { λ v. ⌜ verdictOf v ≡ needVerdict (t .denominator) (requestorsOf t) p (requestorAt p (t .requestors)) ⌝ }
+    ensures { λ v. ⌜ verdictOf v ≡ finishVerdict (t .denominator) (requestorsOf t) p (requestorAt p (t .requestors)) ⌝ }
 {
     let r = t.requestors[p];
     let need = r.need;
@@ -28,9 +28,9 @@ fn check_need(t: Table, p: usize) -> Verdict
 }
 
 // Check 7, place by place.
-fn check_needs(t: Table) -> Verdict
+fn check_finishes(t: Table) -> Verdict
     requires { ⌜ tableVerdict maxPlaces t ≡ faultless ⌝ }
-    ensures { λ v. ⌜ verdictOf v ≡ eachPlace (needVerdict (t .denominator) (requestorsOf t)) 0 (requestorsOf t) ⌝ }
+    ensures { λ v. ⌜ verdictOf v ≡ eachPlace (finishVerdict (t .denominator) (requestorsOf t)) 0 (requestorsOf t) ⌝ }
 {
     let n = t.count;
     let mut p: usize = 0;
@@ -38,7 +38,7 @@ fn check_needs(t: Table) -> Verdict
         if n <= p {
             break Verdict::Faultless;
         }
-        let w = check_need(t, p);
+        let w = check_finish(t, p);
         match w {
             Verdict::Faultless => {
                 p = p + 1;
@@ -58,6 +58,6 @@ pub fn admit(t: Table) -> Verdict
     let v = check_table(t);
     match v {
         Verdict::Fault(_) => v,
-        Verdict::Faultless => check_needs(t),
+        Verdict::Faultless => check_finishes(t),
     }
 }

@@ -1,4 +1,4 @@
--- The search of a slot, place by place, is `first` of the rule; and the place that it grants is eligible. Assumes nothing.
+-- The search of a slot, place by place, is `firstEligible` of the rule; and the place that it grants is eligible. Assumes nothing.
 use mathlib.Core.Path.{_≡_, refl, ap, sym, _∙_}
 use mathlib.Core.Bool.{true, false}
 use mathlib.Core.List.{List, [], _∷_}

@@ -4,7 +4,7 @@ use Rattle.lists.specs.Sums.{total, every, upTo}
 use Rattle.lists.specs.Runs
 use Rattle.arbiter.specs.Refusals.{gate, then}
 use Rattle.arbiter.specs.Table.{rowVerdict, eachPlace, tailVerdict, rateSumVerdict, tableVerdict}
-use Rattle.arbiter.specs.Figures.{roundedUp, finish, needVerdict, admissionVerdict}
+use Rattle.arbiter.specs.Figures.{roundedUp, finish, finishVerdict, admissionVerdict}
 use Rattle.arbiter.specs.State.{accountsHold, sound}
 use Rattle.arbiter.specs.Start.{opening, noTable, noState, startVerdict, start}
 use Rattle.calls.specs.Rule.{eligible, later, firstEligible, served, passed, after}
@@ -17,5 +17,5 @@ use Rattle.cases.specs.EdgeRows.{tableFirst, tableSecond, tablePastTwo, 
 use Rattle.cases.specs.Cases.{All-pass}
 
 pub all-pass : All-pass
-unfolding total every upTo Runs.end Runs.answers gate then rowVerdict eachPlace tailVerdict rateSumVerdict tableVerdict roundedUp finish needVerdict admissionVerdict accountsHold sound opening noTable noState startVerdict start eligible later firstEligible served passed after grantOf advanced more filled done ruleVerdict called callOf callsOf madeCalls answerWords wordsOf writtenOver callsFrom continued replay toPlace padded tableOf stateOf standsAt waitsThroughout reply tableT tableTShort tableRates tableBurst tableDenominator tableFive tableLate threeEach lateCalls benchRows tableFirst tableSecond tablePastTwo tablePastLast tableLargest tableBlocked limitRows orderRows stateRows ruleRows replayRows
+unfolding total every upTo Runs.end Runs.answers gate then rowVerdict eachPlace tailVerdict rateSumVerdict tableVerdict roundedUp finish finishVerdict admissionVerdict accountsHold sound opening noTable noState startVerdict start eligible later firstEligible served passed after grantOf advanced more filled done ruleVerdict called callOf callsOf madeCalls answerWords wordsOf writtenOver callsFrom continued replay toPlace padded tableOf stateOf standsAt waitsThroughout reply tableT tableTShort tableRates tableBurst tableDenominator tableFive tableLate threeEach lateCalls benchRows tableFirst tableSecond tablePastTwo tablePastLast tableLargest tableBlocked limitRows orderRows stateRows ruleRows replayRows
 all-pass = refl

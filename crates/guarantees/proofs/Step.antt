@@ -1,7 +1,6 @@
 -- One call of the rule by its three kinds, refused, posted and slot: the eliminator of every fact about a run, and what each kind
 -- says. Assumes nothing.
-use mathlib.Core.Path.{_≡_, refl, ap, sym}
-use mathlib.Core.Bool.{Bool, true, false}
+use mathlib.Core.Path.{_≡_, refl, sym}
 use Prim.Native.Nat.{ℕ, _+_, _≤_, _<_}
 use native.Mathlib.Omega.{arith}
 use borrow.Author.Tests.{ltb-true, leb-true, eqb-true, eqb-false}
@@ -15,10 +14,10 @@ use Rattle.lists.proofs.Sums.{total-take-set, at-set}
 use Rattle.arbiter.specs.declared.refusals.Refusal.{Refusal}
 use Rattle.arbiter.specs.declared.state.Arbiter.{Arbiter}
 use Rattle.arbiter.specs.Limits.{maxBacklog, maxSlot}
-use Rattle.arbiter.specs.Refusals.{Verdict, faultless, fault, refusal, gate}
+use Rattle.arbiter.specs.Refusals.{Verdict, faultless, fault, refusal}
 use Rattle.arbiter.specs.Answers.{Answer, accepted, refused}
 use Rattle.arbiter.specs.State.{credit, backlog, noAccount, accountAt}
-use Rattle.arbiter.proofs.Checks.{gate-open}
+use Rattle.arbiter.proofs.Checks.{faultless-fault, gate-open, gate-not}
 use Rattle.calls.specs.declared.slot.Grant.{Grant}
 use Rattle.calls.specs.declared.slot.Grant.the-variants.{Nobody, Place}
 use Rattle.calls.specs.Calls.{Call, post, slot, grantOf, advanced, more, filled, slotAnswer, done, ruleVerdict, outcome, ruled}
@@ -81,19 +80,10 @@ module _ (s : Arbiter) where
   slot-below e = ltb-true _ _ (gate-open _ _ _ e .0)
 
 -- the rule itself turns down by 11, 21 and 22 alone
-gate-not : (r other : Refusal) (test : Bool) (rest : Verdict) → (r .number ≡ other .number → ⊥) → (rest ≡ fault other → ⊥)
-    → gate r test rest ≡ fault other → ⊥
-unfolding gate
-gate-not r other true rest apart below e = below e
-gate-not r other false rest apart below e = let same : r ≡ other = cc in apart (ap (λ x. x .number) same)
-
-faultless-not : (r : Refusal) → faultless ≡ fault r → ⊥
-faultless-not r e = let z : _≡_ {A = ℕ} 0 1 = cc in omega arith
-
 rule-never-23 : (s : Arbiter) (c : Call) → ruleVerdict s c ≡ fault (refusal 23) → ⊥
 unfolding ruleVerdict
-rule-never-23 s (post p count) = gate-not _ _ _ _ (omega arith) (gate-not _ _ _ _ (omega arith) (faultless-not _))
-rule-never-23 s slot = gate-not _ _ _ _ (omega arith) (faultless-not _)
+rule-never-23 s (post p count) = gate-not _ _ _ _ (omega arith) (gate-not _ _ _ _ (omega arith) (faultless-fault _))
+rule-never-23 s slot = gate-not _ _ _ _ (omega arith) (faultless-fault _)
 
 slot-answer-not : (stamp : ℕ) (g : Grant) (r : Refusal) → slotAnswer stamp g ≡ refused r → ⊥
 slot-answer-not stamp Nobody r e = let z : _≡_ {A = ℕ} 0 1 = cc in omega arith

@@ -12,7 +12,7 @@ use Rattle.arbiter.specs.declared.table.Table.{Table}
 use Rattle.arbiter.specs.declared.state.Arbiter.{Arbiter}
 use Rattle.arbiter.specs.declared.start.StartResult as code-result
 use Rattle.arbiter.specs.Answers.{Answer, accepted, granted, idle, refused}
-use Rattle.arbiter.specs.Start.{answerOf, start}
+use Rattle.arbiter.specs.Start.{startAnswerOf, start}
 use Rattle.calls.specs.Calls.{Call, post, slot, called}
 use Rattle.replay.specs.declared.Words.{Words}
 use Rattle.replay.specs.declared.Made.{Made}
@@ -85,7 +85,7 @@ replay limit t first calls old = continued limit (start limit t first) calls old
 
 -- the code's result and the lent answers in these values
 abbrev pub replayedOf : code-result.StartResult → (words : List ℕ) → Replayed
-replayedOf r words = record { state = r .state; answer = answerOf (r .answer); words = words }
+replayedOf r words = record { state = r .state; answer = startAnswerOf (r .answer); words = words }
 
 -- the code's three numbers as a list
 abbrev pub listed : Words → List ℕ

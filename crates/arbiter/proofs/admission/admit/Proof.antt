@@ -16,8 +16,8 @@ enum-told c = search needs
 enum-told-2 : tie.Need-enum-told-2
 enum-told-2 c = search needs
 
-check-needs-requires : tie.Need-check-needs-requires
-check-needs-requires c κs = sym (c .before .before .check-table .ensures) ∙ ap verdictOf (c .enum-told2 .given .1)
+check-finishes-requires : tie.Need-check-finishes-requires
+check-finishes-requires c κs = sym (c .before .before .check-table .ensures) ∙ ap verdictOf (c .enum-told2 .given .1)
 
 returns : tie.Need-returns
 unfolding admissionVerdict then
@@ -25,9 +25,9 @@ returns c = rw (← c .before .before .check-table .ensures, c .enum-told .given
 
 returns-2 : tie.Need-returns-2
 unfolding admissionVerdict then
-returns-2 c = rw (← c .before .before .before .check-table .ensures, c .before .enum-told2 .given .1) (c .check-needs .ensures)
+returns-2 c = rw (← c .before .before .before .check-table .ensures, c .before .enum-told2 .given .1) (c .check-finishes .ensures)
 
 pub admit-spec : {M : Type 1} → statement M
 admit-spec =
     tie.close
-    (tie.spec check-table-requires enum-told enum-told-2 check-needs-requires returns returns-2)
+    (tie.spec check-table-requires enum-told enum-told-2 check-finishes-requires returns returns-2)

@@ -1,4 +1,4 @@
--- `arbiter::admission::check_need` meets its contract. One gate. Assumes nothing.
+-- `arbiter::admission::check_finish` meets its contract. One gate. Assumes nothing.
 use mathlib.Core.Path.{sym, _∙_}
 use native.Mathlib.Omega.{arith}
 use borrow.Author.Tests.{lt-leb, le-leb}
@@ -6,10 +6,10 @@ use borrow.Author.Needs.{needs}
 use lib.ListN.{length-map}
 use Rattle.arbiter.specs.Limits.{maxPlaces}
 use Rattle.arbiter.specs.Refusals.{gate}
-use Rattle.arbiter.specs.Figures.{finish, needVerdict}
+use Rattle.arbiter.specs.Figures.{finish, finishVerdict}
 use Rattle.arbiter.proofs.Above.{Above, above}
-use Rattle.arbiter.proofs.admission.check_need.Statement.{statement}
-use Rattle.arbiter.proofs.admission.check_need.Tie as tie
+use Rattle.arbiter.proofs.admission.check_finish.Statement.{statement}
+use Rattle.arbiter.proofs.admission.check_finish.Tie as tie
 
 -- what the table's checks say of the sums above the place
 facts : (c : tie.Start) → Above maxPlaces (c .args .t1) (c .args .p)
@@ -25,12 +25,12 @@ finish-requires : tie.Need-finish-requires
 finish-requires c κs = search needs
 
 returns : tie.Need-returns
-unfolding needVerdict gate
+unfolding finishVerdict gate
 returns c = rw (lt-leb _ _ (rw (c .before .before .before .finish .ensures) at (c .if1 .taken)))
 
 returns-2 : tie.Need-returns-2
-unfolding needVerdict gate
+unfolding finishVerdict gate
 returns-2 c = rw (le-leb _ _ (rw (c .before .before .before .finish .ensures) at (c .if1 .left)))
 
-pub check-need-spec : {M : Type 1} → statement M
-check-need-spec = tie.close (tie.spec mul-r element-copy-out-r finish-requires returns returns-2)
+pub check-finish-spec : {M : Type 1} → statement M
+check-finish-spec = tie.close (tie.spec mul-r element-copy-out-r finish-requires returns returns-2)
