@@ -1,5 +1,5 @@
 -- What checks that find no fault say. Assumes nothing.
-use mathlib.Core.Path.{_≡_, refl, ap, sym}
+use mathlib.Core.Path.{_≡_, refl, ap, sym, _∙_}
 use mathlib.Core.Bool.{Bool, true, false}
 use mathlib.Core.List.{List, [], _∷_}
 use Prim.Native.Nat.{ℕ, zero, suc, _+_, _≤_, _<_}
@@ -8,13 +8,13 @@ use native.Mathlib.Omega.{arith}
 use borrow.Author.Tests.{leb-true}
 use lib.ListN.{length, drop}
 use Rattle.lists.specs.Sums.{total, every}
-use Rattle.lists.proofs.Tests.{in-range-true}
+use Rattle.lists.proofs.Tests.{in-range-true, in-range}
 use Rattle.arbiter.specs.declared.refusals.Refusal.{Refusal}
 use Rattle.arbiter.specs.declared.table.Requestor.{Requestor}
 use Rattle.arbiter.specs.declared.table.Table.{Table}
 use Rattle.arbiter.specs.Limits.{maxDenominator, maxBurst, maxNeed, maxWithin}
 use Rattle.arbiter.specs.Refusals.{Verdict, faultless, fault, gate, then}
-use Rattle.arbiter.specs.Table.{rate, requestorClear, requestorAt, requestorsOf, rowVerdict, eachPlace, tailVerdict, rateSumVerdict, tableVerdict}
+use Rattle.arbiter.specs.Table.{Bounds, denominatorBounds, countBounds, rateBounds, burstBounds, needBounds, withinBounds, heldTo, rate, requestorClear, requestorAt, requestorsOf, rowVerdict, eachPlace, tailVerdict, rateSumVerdict, tableVerdict}
 use Rattle.arbiter.specs.Figures.{finish, finishVerdict, admissionVerdict}
 
 -- no verdict is both
@@ -42,24 +42,24 @@ pub gate-passed : (r : Refusal) (test : Bool) (rest : Verdict) → test ≡ true
 unfolding gate
 gate-passed r test rest e = rw e
 
--- a check made by itself, and then the others
-pub gate-then : (r : Refusal) (test : Bool) (rest : Verdict) → then (gate r test faultless) rest ≡ gate r test rest
-unfolding gate then
-gate-then r true rest = refl
-gate-then r false rest = refl
+-- a fault that two series of checks find is found, whatever comes after them
+pub two-fault : (v w rest : Verdict) (r : Refusal) → then v w ≡ fault r → then v (then w rest) ≡ fault r
+unfolding then
+two-fault faultless w rest r e = rw e
+two-fault (fault x) w rest r e = e
 
--- two checks made ahead of the rest: what they find is found, and if they find nothing the rest decides
-pub two-gates-fault : (r q x : Refusal) (test other : Bool) (rest : Verdict) → then (gate r test faultless) (gate q other faultless) ≡ fault x
-    → gate r test (gate q other rest) ≡ fault x
-unfolding gate then
-two-gates-fault r q x true true rest e = faultless-fault x e
-two-gates-fault r q x true false rest e = e
-two-gates-fault r q x false other rest e = e
+-- what a number that is within its bounds is, and the other way round
+pub held-open : (b : Bounds) (x : ℕ) → heldTo b x ≡ faultless → (b .low ≤ x) × (x ≤ b .high)
+unfolding heldTo
+held-open b x e = in-range-true _ _ _ (gate-open _ _ _ e .0)
 
-pub two-gates-passed : (r q : Refusal) (test other : Bool) → then (gate r test faultless) (gate q other faultless) ≡ faultless → (test ≡ true) × (other ≡ true)
-two-gates-passed r q test other e =
-    let a = then-open _ _ e in
-    (gate-open r test faultless (a .0) .0, gate-open q other faultless (a .1) .0)
+-- the code's bounds are those of the field
+pub held-by : (v : Verdict) (b field : Bounds) (x : ℕ) → v ≡ heldTo b x → b ≡ field → v ≡ heldTo field x
+held-by v b field x e f = e ∙ ap (λ y. heldTo y x) f
+
+pub held : (b : Bounds) (x : ℕ) → b .low ≤ x → x ≤ b .high → heldTo b x ≡ faultless
+unfolding heldTo
+held b x low high = gate-passed _ _ _ (in-range low high)
 
 -- a check that passes place by place passes at each place
 pub each-place-at : (check : ℕ → Requestor → Verdict) (p : ℕ) (rs : List Requestor) → eachPlace check p rs ≡ faultless
@@ -83,14 +83,13 @@ pub record Row (d : ℕ) (r : Requestor) : Type 0 where
 row-open : (d p : ℕ) (r : Requestor) → rowVerdict d p r ≡ faultless → Row d r
 unfolding rowVerdict
 row-open d p r e =
-    let a = gate-open _ _ _ e in
-    let b = gate-open _ _ _ (a .1) in
-    let c = gate-open _ _ _ (b .1) in
-    let f = gate-open _ _ _ (c .1) in
-    let ra = in-range-true _ _ _ (a .0) in
-    let bu = in-range-true _ _ _ (b .0) in
-    let ne = in-range-true _ _ _ (c .0) in
-    let wi = in-range-true _ _ _ (f .0) in
+    let a = then-open _ _ e in
+    let b = then-open _ _ (a .1) in
+    let c = then-open _ _ (b .1) in
+    let ra = held-open (rateBounds d p) _ (a .0) in
+    let bu = held-open (burstBounds d p) _ (b .0) in
+    let ne = held-open (needBounds p) _ (c .0) in
+    let wi = held-open (withinBounds p) _ (c .1) in
     record {
       rate-least = ra .0;
       rate-most = ra .1;
@@ -115,13 +114,13 @@ pub record Fair (limit : ℕ) (t : Table) : Type 0 where
 pub fair : (limit : ℕ) (t : Table) → tableVerdict limit t ≡ faultless → Fair limit t
 unfolding tableVerdict tailVerdict rateSumVerdict
 fair limit t e =
-    let a = gate-open _ _ _ e in
-    let b = gate-open _ _ _ (a .1) in
+    let a = then-open _ _ e in
+    let b = then-open _ _ (a .1) in
     let c = then-open _ _ (b .1) in
     let f = then-open _ _ (c .1) in
     let g = gate-open _ _ _ (f .1) in
-    let d = in-range-true _ _ _ (a .0) in
-    let n = in-range-true _ _ _ (b .0) in
+    let d = held-open denominatorBounds _ (a .0) in
+    let n = held-open (countBounds limit) _ (b .0) in
     record {
       denominator-least = d .0;
       denominator-most = d .1;

@@ -3,11 +3,11 @@ use Prim.Native.Nat.{ℕ}
 use Rattle.arbiter.specs.declared.refusals.Refusal.{Refusal}
 
 pub data Answer : Type 0 where
-  -- a start or a post was carried out
+  -- a start, a post or a reading was carried out
   accepted : Answer
   -- a slot's stamp and the place granted
   granted : (stamp place : ℕ) → Answer
   -- an idle slot's stamp
   idle : (stamp : ℕ) → Answer
-  -- the call changed nothing, for this reason
+  -- the call was not carried out, for this reason
   refused : Refusal → Answer

@@ -41,8 +41,10 @@ finish d rs p j = finishOf d (burstsAbove p rs) (rateLeft d p rs) (requestorAt p
 unfoldable pub finishVerdict : ℕ → List Requestor → ℕ → Requestor → Verdict
 finishVerdict d rs p r = gate (refusalAt 7 p) (leb (finish d rs p (r .need .0)) (r .within .0)) faultless
 
--- the checks of a table given as numbers: 1 to 6, then 7 with the lowest failing place
+-- check 7, with the lowest failing place
+abbrev pub finishesVerdict : Table → Verdict
+finishesVerdict t = eachPlace (finishVerdict (t .denominator) (requestorsOf t)) 0 (requestorsOf t)
+
+-- the checks of a table given as numbers: 1 to 6, then 7
 unfoldable pub admissionVerdict : ℕ → Table → Verdict
-admissionVerdict limit t =
-    then (tableVerdict limit t)
-    (eachPlace (finishVerdict (t .denominator) (requestorsOf t)) 0 (requestorsOf t))
+admissionVerdict limit t = then (tableVerdict limit t) (finishesVerdict t)

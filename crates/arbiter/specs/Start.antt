@@ -15,7 +15,7 @@ use Rattle.arbiter.specs.declared.start.StartResult as code-result
 use Rattle.arbiter.specs.Limits.{maxSlot}
 use Rattle.arbiter.specs.Refusals.{Verdict, faultless, refusal, refusalOf, gate, then, resolve}
 use Rattle.arbiter.specs.Answers.{Answer, accepted, refused}
-use Rattle.arbiter.specs.Table.{noRequestor}
+use Rattle.arbiter.specs.Table.{noTable}
 use Rattle.arbiter.specs.Figures.{admissionVerdict}
 use Rattle.arbiter.specs.State.{noAccount}
 
@@ -35,10 +35,7 @@ fresh r = record { credit = r .burst; backlog = record { 0 = 0 } }
 unfoldable pub opening : Table → ℕ → Arbiter
 opening t first = record { table = t; slot = record { 0 = first }; accounts = map fresh (t .requestors) }
 
--- the table and the state whose every field is 0
-unfoldable pub noTable : ℕ → Table
-noTable limit = record { denominator = 0; count = 0; requestors = replicate limit noRequestor }
-
+-- the state whose every field is 0
 unfoldable pub noState : ℕ → Arbiter
 noState limit = record { table = noTable limit; slot = record { 0 = 0 }; accounts = replicate limit noAccount }
 

@@ -9,8 +9,8 @@ ghost use mathlib.Core.Path.{_≡_};
 ghost use Prim.Native.Nat.{_<_};
 ghost use Rattle.arbiter.specs.Limits.{maxPlaces};
 ghost use Rattle.arbiter.specs.Refusals.{verdictOf, faultless};
-ghost use Rattle.arbiter.specs.Table.{requestorAt, requestorsOf, eachPlace, tableVerdict};
-ghost use Rattle.arbiter.specs.Figures.{finishVerdict, admissionVerdict};
+ghost use Rattle.arbiter.specs.Table.{requestorAt, requestorsOf, tableVerdict};
+ghost use Rattle.arbiter.specs.Figures.{finishVerdict, finishesVerdict, admissionVerdict};
 
 // Check 7 at place p.
 fn check_finish(t: Table, p: usize) -> Verdict
@@ -30,7 +30,7 @@ fn check_finish(t: Table, p: usize) -> Verdict
 // Check 7, place by place.
 fn check_finishes(t: Table) -> Verdict
     requires { ⌜ tableVerdict maxPlaces t ≡ faultless ⌝ }
-    ensures { λ v. ⌜ verdictOf v ≡ eachPlace (finishVerdict (t .denominator) (requestorsOf t)) 0 (requestorsOf t) ⌝ }
+    ensures { λ v. ⌜ verdictOf v ≡ finishesVerdict t ⌝ }
 {
     let n = t.count;
     let mut p: usize = 0;

@@ -2,6 +2,7 @@
 // and start. What calls then do to a state stands in the crate calls.
 
 pub mod admission;
+pub mod bounds;
 mod figures;
 pub mod refusals;
 pub mod start;

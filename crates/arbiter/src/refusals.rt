@@ -111,7 +111,7 @@ fn state_number(s: StateRefusal) -> u32
 }
 
 // The first fault of two series of checks.
-pub(crate) fn first_fault(a: Verdict, b: Verdict) -> Verdict
+pub fn first_fault(a: Verdict, b: Verdict) -> Verdict
     ensures { λ v. ⌜ verdictOf v ≡ then (verdictOf a) (verdictOf b) ⌝ }
 {
     match a {

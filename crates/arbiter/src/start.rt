@@ -2,8 +2,8 @@
 use crate::refusals::Cause;
 use crate::state::Account;
 use crate::state::Arbiter;
-use crate::table::Requestor;
 use crate::table::Table;
+use crate::table::bare_table;
 use crate::units::Slots;
 use crate::units::Transfers;
 ghost use mathlib.Core.Path.{_≡_};
@@ -48,24 +48,12 @@ pub(crate) fn opening_accounts(t: Table) -> [Account; Arbiter::MAX_PLACES]
 fn no_state() -> Arbiter
     ensures { λ r. ⌜ r ≡ noState maxPlaces ⌝ }
 {
-    let row = Requestor {
-        rate: 0,
-        burst: 0,
-        need: Transfers(0),
-        within: Slots(0),
-    };
     let empty = Account {
         credit: 0,
         backlog: Transfers(0),
     };
-    let rows = [row; Arbiter::MAX_PLACES];
-    let table = Table {
-        denominator: 0,
-        count: 0,
-        requestors: rows,
-    };
     Arbiter {
-        table: table,
+        table: bare_table(0, 0),
         slot: Slots(0),
         accounts: [empty; Arbiter::MAX_PLACES],
     }

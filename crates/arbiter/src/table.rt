@@ -1,4 +1,5 @@
 // The requestor table as numbers, and checks 1 to 6.
+use crate::bounds::Bounds;
 use crate::refusals::Cause;
 use crate::refusals::InputRefusal;
 use crate::refusals::Verdict;
@@ -8,13 +9,13 @@ use crate::sums::rates_above;
 use crate::units::Slots;
 use crate::units::Transfers;
 ghost use mathlib.Core.Path.{_≡_};
+ghost use mathlib.Core.List.{[]};
 ghost use Prim.Native.Nat.{_≤_};
 ghost use lib.ListN.{drop};
-ghost use Rattle.lists.specs.Choices.{inRange};
 ghost use Rattle.lists.specs.Sums.{every};
 ghost use Rattle.arbiter.specs.Limits.{maxPlaces};
-ghost use Rattle.arbiter.specs.Refusals.{refusalOf, verdictOf, faultless, gate};
-ghost use Rattle.arbiter.specs.Table.{requestorClear, tailVerdict, rateSumVerdict, requestorsOf, rowVerdict, eachPlace, tableVerdict};
+ghost use Rattle.arbiter.specs.Refusals.{verdictOf};
+ghost use Rattle.arbiter.specs.Table.{tableOf, requestorClear, tailVerdict, rateSumVerdict, requestorsOf, rowVerdict, eachPlace, tableVerdict};
 
 // One row of the table: the rate n, the burst b, and the need of j transfers within L slots.
 pub struct Requestor {
@@ -31,17 +32,22 @@ pub struct Table {
     pub requestors: [Requestor; Arbiter::MAX_PLACES],
 }
 
-// A number held to its limits, with the refusal for one outside them.
-fn check_range(low: u64, high: u64, x: u64, why: InputRefusal) -> Verdict
-    ensures { λ v. ⌜ verdictOf v ≡ gate (refusalOf (Cause.Input why)) (inRange low high x) faultless ⌝ }
+// A table of D and N whose rows are all 0.
+pub fn bare_table(d: u32, n: usize) -> Table
+    ensures { λ t. ⌜ t ≡ tableOf maxPlaces d n [] ⌝ }
 {
-    if x < low {
-        return Verdict::Fault(Cause::Input(why));
+    let row = Requestor {
+        rate: 0,
+        burst: 0,
+        need: Transfers(0),
+        within: Slots(0),
+    };
+    let rows = [row; Arbiter::MAX_PLACES];
+    Table {
+        denominator: d,
+        count: n,
+        requestors: rows,
     }
-    if high < x {
-        return Verdict::Fault(Cause::Input(why));
-    }
-    Verdict::Faultless
 }
 
 fn is_clear(r: Requestor) -> bool
@@ -83,20 +89,10 @@ fn check_row(d: u32, p: usize, r: Requestor) -> Verdict
 {
     let j = r.need;
     let l = r.within;
-    let rate = check_range(1, d as u64, r.rate as u64, InputRefusal::Rate(p));
-    let burst = check_range(
-        d as u64,
-        Arbiter::MAX_BURST as u64,
-        r.burst as u64,
-        InputRefusal::Burst(p),
-    );
-    let need = check_range(
-        1,
-        Arbiter::MAX_NEED as u64,
-        j.0 as u64,
-        InputRefusal::Need(p),
-    );
-    let within = check_range(1, Arbiter::MAX_WITHIN, l.0, InputRefusal::Need(p));
+    let rate = Bounds::of_rate(d, p).hold(r.rate as u64);
+    let burst = Bounds::of_burst(d, p).hold(r.burst as u64);
+    let need = Bounds::of_need(p).hold(j.0 as u64);
+    let within = Bounds::of_within(p).hold(l.0);
     first_fault(rate, first_fault(burst, first_fault(need, within)))
 }
 
@@ -156,13 +152,8 @@ pub(crate) fn check_table(t: Table) -> Verdict
 {
     let d = t.denominator;
     let n = t.count;
-    let denominator = check_range(
-        1,
-        Arbiter::MAX_DENOMINATOR as u64,
-        d as u64,
-        InputRefusal::Denominator,
-    );
-    let count = check_range(1, Arbiter::MAX_PLACES as u64, n as u64, InputRefusal::Count);
+    let denominator = Bounds::of_denominator().hold(d as u64);
+    let count = Bounds::of_count().hold(n as u64);
     let limits = first_fault(denominator, count);
     match limits {
         Verdict::Fault(_) => limits,

@@ -1,4 +1,4 @@
--- Document 01, "Bench examples": the P cases 2 (as numbers), 3, 4 and 7 to 12, and the denominators of case 13. Where the paper
+-- Document 01, "Bench examples": the P cases 1 to 4 and 6 to 12, and case 13. Bytes are written in decimal here. Where the paper
 -- leaves a number of a table open, one is put there under which only the check in question can fail; at D = 0 no rate passes 3.
 -- What a row shows beyond the paper's own numbers (credits and backlogs at its end) was worked out by hand.
 use mathlib.Core.Bool.{true}
@@ -8,36 +8,37 @@ use lib.ListN.{replicate}
 use Rattle.arbiter.specs.declared.table.Table.{Table}
 use Rattle.arbiter.specs.Refusals.{faultless, fault, refusal, refusalAt}
 use Rattle.arbiter.specs.Answers.{accepted, granted, idle, refused}
+use Rattle.table_bytes.specs.Reading.{read, stop}
 use Rattle.calls.specs.Calls.{Call, post, slot}
-use Rattle.cases.specs.Rows.{row, tableOf, Row, admission, calling, figures, floor, standing, found, told, figured, floored}
+use Rattle.cases.specs.Rows.{row, table, allZero, Row, readingNumber, writingNumber, reading, admission, calling, figures, floor, standing, number, bytes, read-as, found, told, figured, floored}
 
 -- Table T: D=4; place 0: n=1, b=8, j=1, L=4; place 1: n=1, b=4, j=1, L=7
 unfoldable pub tableT : Table
-tableT = tableOf 4 2 (row 1 8 1 4 ∷ row 1 4 1 7 ∷ [])
+tableT = table 4 2 (row 1 8 1 4 ∷ row 1 4 1 7 ∷ [])
 
 -- T with place 1's L = 6
 unfoldable pub tableTShort : Table
-tableTShort = tableOf 4 2 (row 1 8 1 4 ∷ row 1 4 1 6 ∷ [])
+tableTShort = table 4 2 (row 1 8 1 4 ∷ row 1 4 1 6 ∷ [])
 
 -- D=4 with these two rates
 unfoldable pub tableRates : ℕ → ℕ → Table
-tableRates n m = tableOf 4 2 (row n 4 1 1000 ∷ row m 4 1 1000 ∷ [])
+tableRates n m = table 4 2 (row n 4 1 1000 ∷ row m 4 1 1000 ∷ [])
 
 -- one place with this burst at D=4
 unfoldable pub tableBurst : ℕ → Table
-tableBurst b = tableOf 4 1 (row 1 b 1 4 ∷ [])
+tableBurst b = table 4 1 (row 1 b 1 4 ∷ [])
 
 -- one place at this denominator
 unfoldable pub tableDenominator : ℕ → Table
-tableDenominator d = tableOf d 1 (row 1 65536 1 65536 ∷ [])
+tableDenominator d = table d 1 (row 1 65536 1 65536 ∷ [])
 
 -- case 11: D=5; place 0 n=1 b=6; place 1 n=2 b=5
 unfoldable pub tableFive : Table
-tableFive = tableOf 5 2 (row 1 6 1 5 ∷ row 2 5 1 5 ∷ [])
+tableFive = table 5 2 (row 1 6 1 5 ∷ row 2 5 1 5 ∷ [])
 
 -- case 12: D=4; place 0 n=1 b=40; place 1 n=1 b=4
 unfoldable pub tableLate : Table
-tableLate = tableOf 4 2 (row 1 40 1 4 ∷ row 1 4 1 18 ∷ [])
+tableLate = table 4 2 (row 1 40 1 4 ∷ row 1 4 1 18 ∷ [])
 
 -- case 3: three posted to each
 unfoldable pub threeEach : List Call
@@ -47,10 +48,18 @@ threeEach = post 0 3 ∷ post 1 3 ∷ []
 unfoldable pub lateCalls : List Call
 lateCalls = replicate 11 slot ++ post 0 30 ∷ replicate 13 slot
 
+-- case 1: the bytes of T, the last of them this one: 04 02 01 08 01 04 01 04 01 07 in the paper
+unfoldable pub bytesT : ℕ → List ℕ
+bytesT last = 4 ∷ 2 ∷ 1 ∷ 8 ∷ 1 ∷ 4 ∷ 1 ∷ 4 ∷ 1 ∷ last ∷ []
+
 unfoldable pub benchRows : List Row
 benchRows =
-    -- 2: refused 7, place 1 (wait 3, finish 7)
-    record { asked = admission tableTShort; written = found (fault (refusalAt 7 1)) }
+    -- 1: read as T
+    record { asked = reading (bytesT 7); written = read-as accepted tableT }
+    -- 2: with last byte 06, refused 7, place 1
+    ∷ record { asked = reading (bytesT 6); written = read-as (refused (refusalAt 7 1)) allZero }
+    -- 2, as numbers: refused 7, place 1 (wait 3, finish 7)
+    ∷ record { asked = admission tableTShort; written = found (fault (refusalAt 7 1)) }
     ∷ record { asked = figures tableTShort 1 1; written = figured 8 3 3 7 }
     ∷ record { asked = admission tableT; written = found faultless }
     -- 3: nine slots log 0 0 1 0 1 255 255 1 255
@@ -65,6 +74,13 @@ benchRows =
       asked = calling tableT 0 (threeEach ++ replicate 3 slot);
       written = told accepted (accepted ∷ accepted ∷ granted 0 0 ∷ granted 1 0 ∷ granted 2 1 ∷ []) (standing 3 (3 ∷ 3 ∷ []) (1 ∷ 2 ∷ []));
     }
+    -- 6: 300 is AC 02; 84 00 is refused 9; FF FF FF FF 0F is 4,294,967,295 and FF FF FF FF 10 is refused 9
+    ∷ record { asked = readingNumber (172 ∷ 2 ∷ []); written = number (read 300 []) }
+    ∷ record { asked = writingNumber 300; written = bytes (172 ∷ 2 ∷ []) }
+    ∷ record { asked = readingNumber (132 ∷ 0 ∷ []); written = number (stop (refusal 9)) }
+    ∷ record { asked = readingNumber (255 ∷ 255 ∷ 255 ∷ 255 ∷ 15 ∷ []); written = number (read 4294967295 []) }
+    ∷ record { asked = writingNumber 4294967295; written = bytes (255 ∷ 255 ∷ 255 ∷ 255 ∷ 15 ∷ []) }
+    ∷ record { asked = readingNumber (255 ∷ 255 ∷ 255 ∷ 255 ∷ 16 ∷ []); written = number (stop (refusal 9)) }
     -- 7: D=4 with rates 3 and 2 is refused 6; 3 and 1 are not
     ∷ record { asked = admission (tableRates 3 2); written = found (fault (refusal 6)) }
     ∷ record { asked = admission (tableRates 3 1); written = found faultless }
@@ -100,4 +116,6 @@ benchRows =
     ∷ record { asked = admission (tableDenominator 65535); written = found faultless }
     ∷ record { asked = admission (tableDenominator 0); written = found (fault (refusal 1)) }
     ∷ record { asked = admission (tableDenominator 65536); written = found (fault (refusal 1)) }
+    -- 13: empty bytes are refused 8
+    ∷ record { asked = reading []; written = read-as (refused (refusal 8)) allZero }
     ∷ []

@@ -4,9 +4,10 @@ use mathlib.Core.List.{List, _++_, map}
 use Rattle.cases.specs.Rows.{Row, reply}
 use Rattle.cases.specs.BenchRows.{benchRows}
 use Rattle.cases.specs.EdgeRows.{limitRows, orderRows, stateRows, ruleRows, replayRows}
+use Rattle.cases.specs.BytesRows.{numberRows, readRows, writeRows}
 
 abbrev pub rows : List Row
-rows = benchRows ++ limitRows ++ orderRows ++ stateRows ++ ruleRows ++ replayRows
+rows = benchRows ++ limitRows ++ orderRows ++ stateRows ++ ruleRows ++ replayRows ++ numberRows ++ readRows ++ writeRows
 
 abbrev pub All-pass : Type 0
 All-pass = map (λ r. reply (r .asked)) rows ≡ map (λ r. r .written) rows

@@ -1,5 +1,6 @@
 -- Edges of the checks and of the rule, worked out by hand.
 use mathlib.Core.List.{List, [], _∷_, _++_}
+use Prim.Native.Nat.{suc, _-_}
 use lib.ListN.{replicate}
 use Rattle.arbiter.specs.declared.table.Requestor.{Requestor}
 use Rattle.arbiter.specs.declared.table.Table.{Table}
@@ -9,36 +10,36 @@ use Rattle.arbiter.specs.Answers.{accepted, granted, idle, refused}
 use Rattle.arbiter.specs.Table.{noRequestor}
 use Rattle.arbiter.specs.State.{noAccount}
 use Rattle.calls.specs.Calls.{post, slot}
-use Rattle.cases.specs.Rows.{row, account, tableOf, stateOf, Row, admission, calling, asking, replaying, standing, found, told, answered, replayed}
+use Rattle.cases.specs.Rows.{row, account, table, stateOf, Row, admission, calling, asking, replaying, standing, found, told, answered, replayed}
 use Rattle.cases.specs.BenchRows.{tableT, tableTShort}
 
 -- T with this row at place 0, or at place 1
 unfoldable pub tableFirst : Requestor → Table
-tableFirst r = tableOf 4 2 (r ∷ row 1 4 1 7 ∷ [])
+tableFirst r = table 4 2 (r ∷ row 1 4 1 7 ∷ [])
 
 unfoldable pub tableSecond : Requestor → Table
-tableSecond r = tableOf 4 2 (row 1 8 1 4 ∷ r ∷ [])
+tableSecond r = table 4 2 (row 1 8 1 4 ∷ r ∷ [])
 
--- N = 2 with a rate of 0 at place 0, and this row at place 2, or at place 15
+-- N = 2 with a rate of 0 at place 0, and this row at place 2, or at the last row of the array
 unfoldable pub tablePastTwo : Requestor → Table
-tablePastTwo r = tableOf 4 2 (row 0 8 1 4 ∷ row 1 4 1 7 ∷ r ∷ [])
+tablePastTwo r = table 4 2 (row 0 8 1 4 ∷ row 1 4 1 7 ∷ r ∷ [])
 
 unfoldable pub tablePastLast : Requestor → Table
-tablePastLast r = tableOf 4 2 (row 0 8 1 4 ∷ row 1 4 1 7 ∷ replicate 13 noRequestor ++ r ∷ [])
+tablePastLast r = table 4 2 (row 0 8 1 4 ∷ row 1 4 1 7 ∷ replicate (maxPlaces - 3) noRequestor ++ r ∷ [])
 
 -- every place has the largest burst; each rate is 1 and their sum is exactly D
 unfoldable pub tableLargest : Table
-tableLargest = tableOf maxPlaces maxPlaces (replicate maxPlaces (row 1 16777216 1 1073741824))
+tableLargest = table maxPlaces maxPlaces (replicate maxPlaces (row 1 16777216 1 1073741824))
 
 -- D=4; place 0 n=1 b=16; place 1 n=3 b=4
 unfoldable pub tableBlocked : Table
-tableBlocked = tableOf 4 2 (row 1 16 1 4 ∷ row 3 4 1 8 ∷ [])
+tableBlocked = table 4 2 (row 1 16 1 4 ∷ row 3 4 1 8 ∷ [])
 
 -- numbers outside their limits, and the neighbours that are just inside
 unfoldable pub limitRows : List Row
 limitRows =
-    record { asked = admission (tableOf 4 0 []); written = found (fault (refusal 2)) }
-    ∷ record { asked = admission (tableOf 4 17 (replicate 16 (row 1 4 1 1000))); written = found (fault (refusal 2)) }
+    record { asked = admission (table 4 0 []); written = found (fault (refusal 2)) }
+    ∷ record { asked = admission (table 4 (suc maxPlaces) (replicate maxPlaces (row 1 4 1 1000))); written = found (fault (refusal 2)) }
     ∷ record { asked = admission (tableFirst (row 0 8 1 4)); written = found (fault (refusalAt 3 0)) }
     ∷ record { asked = admission (tableFirst (row 5 8 1 4)); written = found (fault (refusalAt 3 0)) }
     ∷ record { asked = admission (tableSecond (row 1 16777217 1 8)); written = found (fault (refusalAt 4 1)) }
@@ -84,16 +85,16 @@ orderRows =
     ∷ record { asked = admission (tablePastLast (row 0 0 0 1)); written = found (fault (refusal 2)) }
     ∷ record { asked = admission (tablePastTwo noRequestor); written = found (fault (refusalAt 3 0)) }
     -- place by place: 5 at place 0 ahead of 3 at place 1
-    ∷ record { asked = admission (tableOf 4 2 (row 1 8 0 4 ∷ row 0 4 1 7 ∷ [])); written = found (fault (refusalAt 5 0)) }
+    ∷ record { asked = admission (table 4 2 (row 1 8 0 4 ∷ row 0 4 1 7 ∷ [])); written = found (fault (refusalAt 5 0)) }
     -- 1 ahead of 2; inside a row 3 ahead of 4 ahead of 5; 5 at the last place ahead of 6
-    ∷ record { asked = admission (tableOf 0 17 []); written = found (fault (refusal 1)) }
+    ∷ record { asked = admission (table 0 (suc maxPlaces) []); written = found (fault (refusal 1)) }
     ∷ record { asked = admission (tableSecond (row 0 3 0 0)); written = found (fault (refusalAt 3 1)) }
     ∷ record { asked = admission (tableSecond (row 1 3 0 0)); written = found (fault (refusalAt 4 1)) }
-    ∷ record { asked = admission (tableOf 4 2 (row 3 8 1 100 ∷ row 3 4 0 100 ∷ [])); written = found (fault (refusalAt 5 1)) }
+    ∷ record { asked = admission (table 4 2 (row 3 8 1 100 ∷ row 3 4 0 100 ∷ [])); written = found (fault (refusalAt 5 1)) }
     -- 6 ahead of 7, 7 ahead of 12, and of two places that fail 7 the lower
-    ∷ record { asked = admission (tableOf 4 2 (row 3 8 1 1 ∷ row 3 4 1 7 ∷ [])); written = found (fault (refusal 6)) }
+    ∷ record { asked = admission (table 4 2 (row 3 8 1 1 ∷ row 3 4 1 7 ∷ [])); written = found (fault (refusal 6)) }
     ∷ record { asked = calling tableTShort 4611686018427387905 []; written = told (refused (refusalAt 7 1)) [] (standing 0 (0 ∷ 0 ∷ []) (0 ∷ 0 ∷ [])) }
-    ∷ record { asked = admission (tableOf 4 2 (row 1 8 1 3 ∷ row 1 4 1 6 ∷ [])); written = found (fault (refusalAt 7 0)) }
+    ∷ record { asked = admission (table 4 2 (row 1 8 1 3 ∷ row 1 4 1 6 ∷ [])); written = found (fault (refusalAt 7 0)) }
     -- 11 ahead of 21
     ∷ record { asked = calling tableT 0 (post 2 65536 ∷ []); written = told accepted (refused (refusal 11) ∷ []) (standing 0 (8 ∷ 4 ∷ []) (0 ∷ 0 ∷ [])) }
     -- 23 ahead of 22 and of 11
@@ -112,7 +113,7 @@ unfoldable pub stateRows : List Row
 stateRows =
     -- a field past place 1 that is not 0: of the table, a credit, a backlog
     record {
-      asked = asking (stateOf (tableOf 4 2 (row 1 8 1 4 ∷ row 1 4 1 7 ∷ row 0 0 0 1 ∷ [])) 0 (account 8 0 ∷ account 4 0 ∷ [])) slot;
+      asked = asking (stateOf (table 4 2 (row 1 8 1 4 ∷ row 1 4 1 7 ∷ row 0 0 0 1 ∷ [])) 0 (account 8 0 ∷ account 4 0 ∷ [])) slot;
       written = answered (refused (refusal 23)) (standing 0 (8 ∷ 4 ∷ []) (0 ∷ 0 ∷ []));
     }
     ∷ record {
@@ -124,7 +125,7 @@ stateRows =
       written = answered (refused (refusal 23)) (standing 0 (8 ∷ 4 ∷ []) (0 ∷ 0 ∷ []));
     }
     ∷ record {
-      asked = asking (stateOf tableT 0 (account 8 0 ∷ account 4 0 ∷ replicate 13 noAccount ++ account 0 1 ∷ [])) slot;
+      asked = asking (stateOf tableT 0 (account 8 0 ∷ account 4 0 ∷ replicate (maxPlaces - 3) noAccount ++ account 0 1 ∷ [])) slot;
       written = answered (refused (refusal 23)) (standing 0 (8 ∷ 4 ∷ []) (0 ∷ 0 ∷ []));
     }
     -- a credit sum past the burst sum, of places 0 to 0 and of places 0 to 1; a backlog and a slot number past their limits
@@ -160,7 +161,7 @@ unfoldable pub ruleRows : List Row
 ruleRows =
     -- N=1 and D=1
     record {
-      asked = calling (tableOf 1 1 (row 1 1 1 1 ∷ [])) 0 (post 0 2 ∷ slot ∷ slot ∷ slot ∷ []);
+      asked = calling (table 1 1 (row 1 1 1 1 ∷ [])) 0 (post 0 2 ∷ slot ∷ slot ∷ slot ∷ []);
       written = told accepted (accepted ∷ granted 0 0 ∷ granted 1 0 ∷ idle 2 ∷ []) (standing 3 (1 ∷ []) (0 ∷ []));
     }
     -- place 1 is blocked while place 0 spends its burst: its credit passes its burst of 4

@@ -4,6 +4,7 @@ use mathlib.Core.List.{List, [], _∷_, _++_, map}
 use Prim.Native.Nat.{ℕ, _-_, _*_}
 use lib.Dec.{ltb}
 use lib.ListN.{length, take, replicate}
+use Rattle.groups.specs.Groups.{numberBytes, Filled, numberWritten}
 use Rattle.arbiter.specs.declared.table.Requestor.{Requestor}
 use Rattle.arbiter.specs.declared.table.Table.{Table}
 use Rattle.arbiter.specs.declared.state.Account.{Account}
@@ -11,10 +12,12 @@ use Rattle.arbiter.specs.declared.state.Arbiter.{Arbiter}
 use Rattle.arbiter.specs.Limits.{maxPlaces}
 use Rattle.arbiter.specs.Refusals.{Verdict}
 use Rattle.arbiter.specs.Answers.{Answer}
-use Rattle.arbiter.specs.Table.{noRequestor, requestorAt, requestorsOf}
+use Rattle.arbiter.specs.Table.{requestorAt, requestorsOf, tableOf}
 use Rattle.arbiter.specs.Figures.{burstsAbove, rateLeft, waitOf, finish, admissionVerdict}
 use Rattle.arbiter.specs.State.{credit, backlog, noAccount, accountAt}
 use Rattle.arbiter.specs.Start.{start}
+use Rattle.table_bytes.specs.Reading.{Read, numberRead, readTable}
+use Rattle.table_bytes.specs.Writing.{WriteAnswer, writeTable}
 use Rattle.calls.specs.Calls.{Call, post, slot, called}
 use Rattle.guarantees.specs.Counts.{slotsIn, grantsTo, stateAfter, heardFrom}
 use Rattle.replay.specs.Replay.{replay}
@@ -32,14 +35,26 @@ unfoldable pub padded : {A : Type 0} → A → List A → List A
 padded zero-element xs = xs ++ replicate (maxPlaces - length xs) zero-element
 
 -- a table of D, N and rows from place 0 on
-unfoldable pub tableOf : ℕ → ℕ → List Requestor → Table
-tableOf d n rows = record { denominator = d; count = n; requestors = padded noRequestor rows }
+abbrev pub table : ℕ → ℕ → List Requestor → Table
+table d n rows = tableOf maxPlaces d n rows
+
+-- the table whose every field is 0
+abbrev pub allZero : Table
+allZero = record { denominator = 0; count = 0; requestors = replicate maxPlaces (row 0 0 0 0) }
 
 -- a state of a table, a slot number and accounts from place 0 on
 unfoldable pub stateOf : Table → ℕ → List Account → Arbiter
 stateOf t at accounts = record { table = t; slot = record { 0 = at }; accounts = padded noAccount accounts }
 
 pub data Question : Type 0 where
+  -- what a number is read as from the start of some bytes, and what bytes a number is written as
+  readingNumber : (bytes : List ℕ) → Question
+  writingNumber : ℕ → Question
+  -- a number's bytes into a lent buffer
+  puttingNumber : ℕ → (old : List ℕ) → Question
+  -- a table from its bytes, and a table's bytes into a lent buffer
+  reading : (bytes : List ℕ) → Question
+  writing : Table → (old : List ℕ) → Question
   -- what admission finds
   admission : Table → Question
   -- what a start answers, and the calls from it, and how the state stands then
@@ -63,6 +78,12 @@ abbrev pub standing : ℕ → List ℕ → List ℕ → Standing
 standing at credits backlogs = record { slot = at; credits = credits; backlogs = backlogs }
 
 pub data Reply : Type 0 where
+  number : Read ℕ → Reply
+  bytes : List ℕ → Reply
+  put-as : Filled → Reply
+  read-as : Answer → Table → Reply
+  -- how many bytes were written or why none, and the lent buffer afterwards
+  written-as : WriteAnswer → (buffer : List ℕ) → Reply
   found : Verdict → Reply
   told : (started : Answer) (answers : List Answer) → Standing → Reply
   answered : Answer → Standing → Reply
@@ -86,6 +107,11 @@ abbrev pub floorSides : ℕ → Bool → ℕ → ℕ → ℕ → ℕ → ℕ →
 floorSides c waits d n R B L g = floored c waits (R * d * g) (n * (R * L - B))
 
 unfoldable pub reply : Question → Reply
+reply (readingNumber given) = number (numberRead given)
+reply (writingNumber x) = bytes (numberBytes x)
+reply (puttingNumber x old) = put-as (numberWritten x old)
+reply (reading given) = let r = readTable maxPlaces given in read-as (r .answer) (r .table)
+reply (writing t old) = let w = writeTable maxPlaces t old in written-as (w .answer) (w .buffer)
 reply (admission t) = found (admissionVerdict maxPlaces t)
 reply (calling t first calls) =
     let begun = start maxPlaces t first in
@@ -104,7 +130,7 @@ reply (floor t before inside p) =
     floorSides (credit (accountAt p (s .accounts))) (waitsThroughout p s inside) (t .denominator) (requestorAt p (requestorsOf t) .rate)
     (rateLeft (t .denominator) p (requestorsOf t)) (burstsAbove p (requestorsOf t)) (slotsIn heard) (grantsTo p heard)
 
--- a question, and the reply that is written for it: in BenchRows what the paper says, in EdgeRows what was worked out by hand
+-- a question, and the reply that is written for it: in BenchRows what the paper says, elsewhere what was worked out by hand
 pub record Row : Type 0 where
   pub asked : Question
   pub written : Reply

@@ -1,11 +1,12 @@
--- Laws on sums over a list and over its first k elements. Assumes nothing.
-use mathlib.Core.Path.{_≡_, refl, ap}
-use mathlib.Core.List.{List, [], _∷_, map}
+-- Laws on sums and joins over a list and over its first k elements. Assumes nothing.
+use mathlib.Core.Path.{_≡_, refl, ap, _∙_}
+use mathlib.Core.List.{List, [], _∷_, _++_, map, append-nil, append-assoc}
 use Prim.Native.Nat.{ℕ, zero, suc, _+_, _-_, _*_, _≤_, _<_}
+use native.Mathlib.Numerals.{add-one}
 use native.Mathlib.Omega.{arith}
-use lib.ListN.{length, getD, take, drop, set}
-use lib.Seq.{take-take}
-use Rattle.lists.specs.Sums.{total}
+use lib.ListN.{length, getD, take, drop, set, length-append}
+use lib.Seq.{take-take, take-suc}
+use Rattle.lists.specs.Sums.{total, joined}
 
 module _ {A : Type 0} (f : A → ℕ) where
   pub total-take-drop : (k : ℕ) (xs : List A) → total f (take k xs) + total f (drop k xs) ≡ total f xs
@@ -63,3 +64,23 @@ module _ {A : Type 0} (f : A → ℕ) (z : A) where
     -- the same, from a sum over one element fewer
     pub total-take-pred : (k : ℕ) (xs : List A) → 1 ≤ k → total f (take k xs) ≡ total f (take (k - 1) xs) + f (getD xs (k - 1) z)
     total-take-pred k xs h = let back : suc (k - 1) ≡ k = omega arith in rw back at (total-take-suc (k - 1) xs)
+
+module _ {A B : Type 0} (f : A → List B) where
+  pub joined-append : (xs ys : List A) → joined f (xs ++ ys) ≡ joined f xs ++ joined f ys
+  unfolding joined
+  joined-append [] ys = refl
+  joined-append (x ∷ xs) ys = rw (joined-append xs ys, append-assoc)
+
+  -- one element more at the end
+  pub joined-more : (xs : List A) (x : A) → joined f (xs ++ (x ∷ [])) ≡ joined f xs ++ f x
+  unfolding joined
+  joined-more xs x = joined-append xs (x ∷ []) ∙ ap (λ l. joined f xs ++ l) (append-nil (f x))
+
+  -- the first i + 1 elements: the first i, and then the next
+  pub joined-next : (z : A) (xs : List A) (i : ℕ) → i < length xs → joined f (take (i + 1) xs) ≡ joined f (take i xs) ++ f (getD xs i z)
+  joined-next z xs i h = rw (add-one i, take-suc xs i z h) (joined-more (take i xs) (getD xs i z))
+
+  pub length-joined : (xs : List A) → length (joined f xs) ≡ total (λ x. length (f x)) xs
+  unfolding joined total
+  length-joined [] = refl
+  length-joined (x ∷ xs) = omega (arith, length-append (f x) (joined f xs), length-joined xs)

@@ -7,7 +7,7 @@ use Prim.Native.Nat.{ℕ, zero, suc, _+_, _≤_, _<_}
 use native.Mathlib.Nat.{not-suc-le-zero}
 use native.Mathlib.Omega.{arith}
 use native.Mathlib.Numerals.{add-one}
-use borrow.Author.Tests.{leb-true, eqb-true, eqb-false}
+use borrow.Author.Tests.{leb-true, le-leb, eqb-true, eqb-false}
 use lib.Dec.{leb, eqb}
 use lib.ListN.{length, getD, take, drop, drop-of-length-le}
 use lib.Seq.{drop-cons}
@@ -37,6 +37,9 @@ pub in-range-true : (low high x : ℕ) → inRange low high x ≡ true → (low 
 in-range-true low high x e =
     let a = and-true (leb low x) (leb x high) e in
     (leb-true low x (a .0), leb-true x high (a .1))
+
+pub in-range : {low high x : ℕ} → low ≤ x → x ≤ high → inRange low high x ≡ true
+in-range {low} {high} {x} a b = true-and (leb low x) (leb x high) (le-leb low x a) (le-leb x high b)
 
 module _ {A : Type 0} (test : A → Bool) (z : A) where
   pub every-at : (xs : List A) → every test xs ≡ true → (i : ℕ) → i < length xs → test (getD xs i z) ≡ true

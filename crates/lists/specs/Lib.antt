@@ -1,4 +1,6 @@
--- What every other crate's definitions are made of: choices, sums, tests over a list, and runs of calls on any state.
+-- What every other crate's definitions are made of: choices, sums, tests over a list, lists written
+-- over from their start, and runs of calls on any state.
 pub mod Choices
 pub mod Sums
+pub mod Overwriting
 pub mod Runs

@@ -1,7 +1,7 @@
 -- A list of calls made one after the other from numbers: which call comes next, where its answer goes, and that a refused call
 -- names no place. Assumes nothing.
 use mathlib.Core.Path.{_≡_, refl, ap, sym, _∙_}
-use mathlib.Core.List.{List, [], _∷_, _++_, append-nil, append-assoc}
+use mathlib.Core.List.{List, [], _∷_, _++_}
 use Prim.Native.Nat.{ℕ, zero, suc, _+_, _*_, _/_, _≤_, _<_, min}
 use native.Mathlib.Numerals.{add-one}
 use native.Mathlib.Omega.{arith}
@@ -10,7 +10,10 @@ use lib.Dec.{leb}
 use lib.ListN.{length, getD, set, take, length-append, length-set}
 use lib.Seq.{take-suc, take-all, length-take-le}
 use Rattle.lists.proofs.Tests.{cases}
+use Rattle.lists.specs.Sums.{joined}
+use Rattle.lists.specs.Overwriting.{writtenOver}
 use Rattle.lists.specs.Runs.{Result, end, answers}
+use Rattle.lists.proofs.Sums.{joined-more}
 use Rattle.lists.proofs.Runs.{end-more, answers-more, length-answers}
 use Rattle.lists.proofs.Overwriting.{stored-behind}
 use Rattle.arbiter.specs.declared.refusals.Cause.{Cause}
@@ -23,7 +26,7 @@ use Rattle.arbiter.specs.Start.{startResultOf, start}
 use Rattle.calls.specs.Calls.{post, slot, called}
 use Rattle.replay.specs.declared.Words.{Words}
 use Rattle.replay.specs.declared.Made.{Made}
-use Rattle.replay.specs.Replay.{callOf, callsOf, madeCalls, answerWords, wordsOf, writtenOver, afterCalls, callsFrom, continued, replay, replayedOf, listed, Makes}
+use Rattle.replay.specs.Replay.{callOf, callsOf, madeCalls, answerWords, wordsOf, afterCalls, callsFrom, continued, replay, replayedOf, listed, Makes}
 
 -- ---- one call
 
@@ -92,15 +95,9 @@ length-answer (idle stamp) = refl
 length-answer (refused r) = refl
 
 length-words : (heard : List Answer) → length (wordsOf heard) ≡ 3 * length heard
-unfolding wordsOf
+unfolding joined
 length-words [] = refl
 length-words (a ∷ heard) = omega (arith, length-append (answerWords a) (wordsOf heard), length-answer a, length-words heard)
-
--- one answer more at the end
-words-more : (heard : List Answer) (a : Answer) → wordsOf (heard ++ (a ∷ [])) ≡ wordsOf heard ++ answerWords a
-unfolding wordsOf
-words-more [] a = append-nil (answerWords a)
-words-more (b ∷ heard) a = rw (words-more heard a, append-assoc)
 
 -- three numbers stored behind those that are written
 written-more : (words old : List ℕ) (k x y z : ℕ) → length words ≡ k → k + 3 ≤ length old
@@ -126,7 +123,7 @@ pub record Standing (limit : ℕ) (calls old : List ℕ) (s : Arbiter) (n : ℕ)
 module _ (limit : ℕ) (calls old : List ℕ) (s : Arbiter) (n : ℕ) where
   -- no call is made yet
   pub standing-first : n ≡ min (length calls / 3) (length old / 3) → Standing limit calls old s n old s 0
-  unfolding end answers wordsOf writtenOver
+  unfolding end answers joined writtenOver
   standing-first e = record {
     within = omega arith;
     calls-fit = omega arith;
@@ -164,7 +161,7 @@ module _ (limit : ℕ) (calls old : List ℕ) (s : Arbiter) (n : ℕ) where
             ap (λ (l : List ℕ). set (set (set l (3 * i) (m .words .0)) (3 * i + 1) (m .words .1)) (3 * i + 2) (m .words .2)) (g .written)
             ∙ written-more (wordsOf heard) old (3 * i) (m .words .0) (m .words .1) (m .words .2) (length-so-far i (omega arith)) (omega arith)
             ∙ ap (λ (l : List ℕ). writtenOver (wordsOf heard ++ l) old) (made .words ∙ ap (λ (x : Arbiter). answerWords (called limit x call .answer)) (g .after))
-            ∙ ap (λ (l : List ℕ). writtenOver l old) (sym (words-more heard (called limit (end (called limit) s before) call .answer)))
+            ∙ ap (λ (l : List ℕ). writtenOver l old) (sym (joined-more answerWords heard (called limit (end (called limit) s before) call .answer)))
             ∙ ap (λ (l : List Answer). writtenOver (wordsOf l) old) (sym (ap (answers (called limit) s) next ∙ answers-more (called limit) s before call));
       }
 

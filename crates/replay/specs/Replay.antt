@@ -3,10 +3,12 @@
 -- them.
 use mathlib.Core.Path.{_≡_}
 use mathlib.Core.Bool.{Bool, true, false}
-use mathlib.Core.List.{List, [], _∷_, _++_}
+use mathlib.Core.List.{List, [], _∷_}
 use Prim.Native.Nat.{ℕ, zero, suc, _/_}
-use lib.ListN.{length, take, drop}
+use lib.ListN.{length, take}
 use Rattle.lists.specs.Choices.{pick}
+use Rattle.lists.specs.Sums.{joined}
+use Rattle.lists.specs.Overwriting.{writtenOver}
 use Rattle.lists.specs.Runs.{Result, end, answers}
 use Rattle.arbiter.specs.declared.table.Table.{Table}
 use Rattle.arbiter.specs.declared.state.Arbiter.{Arbiter}
@@ -41,13 +43,8 @@ answerWords (idle stamp) = 2 ∷ stamp ∷ 0 ∷ []
 answerWords (refused r) = 3 ∷ r .number ∷ 0 ∷ []
 
 -- the numbers of the answers, in order
-unfoldable pub wordsOf : List Answer → List ℕ
-wordsOf [] = []
-wordsOf (a ∷ heard) = answerWords a ++ wordsOf heard
-
--- a lent list with these numbers in front; what stands behind them is left as it was
-unfoldable pub writtenOver : (words old : List ℕ) → List ℕ
-writtenOver words old = words ++ drop (length words) old
+abbrev pub wordsOf : List Answer → List ℕ
+wordsOf heard = joined answerWords heard
 
 -- what a replay comes to: the state, what the start answered, and the lent answers afterwards
 pub record Replayed : Type 0 where

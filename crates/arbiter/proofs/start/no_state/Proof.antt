@@ -1,12 +1,15 @@
 -- `arbiter::start::no_state` meets its contract. The definition itself. Assumes nothing.
-use mathlib.Core.Path.{refl}
-use Rattle.arbiter.specs.Start.{noTable, noState}
+use borrow.Author.Needs.{needs}
+use Rattle.arbiter.specs.Start.{noState}
 use Rattle.arbiter.proofs.start.no_state.Statement.{statement}
 use Rattle.arbiter.proofs.start.no_state.Tie as tie
 
+bare-table-requires : tie.Need-bare-table-requires
+bare-table-requires c κs = search needs
+
 returns : tie.Need-returns
-unfolding noState noTable
-returns c = refl
+unfolding noState
+returns c = rw (c .bare-table .ensures)
 
 pub no-state-spec : {M : Type 1} → statement M
-no-state-spec = tie.close (tie.spec returns)
+no-state-spec = tie.close (tie.spec bare-table-requires returns)

@@ -1,37 +1,44 @@
--- `arbiter::table::check_row` meets its contract. Four gates, joined in the order of the definition. Assumes nothing.
+-- `arbiter::table::check_row` meets its contract. Four numbers held to their bounds, joined in the order of the definition. Assumes
+-- nothing.
 use mathlib.Core.Path.{_∙_}
-use borrow.Author.Needs.{needs}
 use Rattle.arbiter.specs.Table.{rowVerdict}
-use Rattle.arbiter.proofs.Checks.{gate-then}
+use Rattle.arbiter.proofs.Checks.{held-by}
+use borrow.Author.Needs.{needs}
 use Rattle.arbiter.proofs.table.check_row.Statement.{statement}
 use Rattle.arbiter.proofs.table.check_row.Tie as tie
 
-cast-check-range : tie.Need-cast-check-range
-cast-check-range c = search needs
+of-rate-requires : tie.Need-of-rate-requires
+of-rate-requires c κs = search needs
 
-check-range-requires : tie.Need-check-range-requires
-check-range-requires c κs = search needs
+cast-hold : tie.Need-cast-hold
+cast-hold c = search needs
 
-cast-check-range-2 : tie.Need-cast-check-range-2
-cast-check-range-2 c = search needs
+hold-requires : tie.Need-hold-requires
+hold-requires c κs = search needs
 
-cast-check-range-3 : tie.Need-cast-check-range-3
-cast-check-range-3 c = search needs
+of-burst-requires : tie.Need-of-burst-requires
+of-burst-requires c κs = search needs
 
-check-range-requires-2 : tie.Need-check-range-requires-2
-check-range-requires-2 c κs = search needs
+cast-hold-2 : tie.Need-cast-hold-2
+cast-hold-2 c = search needs
 
-cast-check-range-4 : tie.Need-cast-check-range-4
-cast-check-range-4 c = search needs
+hold-requires-2 : tie.Need-hold-requires-2
+hold-requires-2 c κs = search needs
 
-cast-check-range-5 : tie.Need-cast-check-range-5
-cast-check-range-5 c = search needs
+of-need-requires : tie.Need-of-need-requires
+of-need-requires c κs = search needs
 
-check-range-requires-3 : tie.Need-check-range-requires-3
-check-range-requires-3 c κs = search needs
+cast-hold-3 : tie.Need-cast-hold-3
+cast-hold-3 c = search needs
 
-check-range-requires-4 : tie.Need-check-range-requires-4
-check-range-requires-4 c κs = search needs
+hold-requires-3 : tie.Need-hold-requires-3
+hold-requires-3 c κs = search needs
+
+of-within-requires : tie.Need-of-within-requires
+of-within-requires c κs = search needs
+
+hold-requires-4 : tie.Need-hold-requires-4
+hold-requires-4 c κs = search needs
 
 first-fault-requires : tie.Need-first-fault-requires
 first-fault-requires c κs = search needs
@@ -45,24 +52,27 @@ first-fault-requires-3 c κs = search needs
 returns : tie.Need-returns
 unfolding rowVerdict
 returns c =
-    c .first-fault3 .ensures
-    ∙ rw (c .before .first-fault2 .ensures, c .before .before .first-fault .ensures)
-    (rw (c .before .before .before .before .before .before .before .before .check-range .ensures, c .before .before .before .before .before .before .check-range2 .ensures, c .before .before .before .before .check-range3 .ensures, c .before .before .before .check-range4 .ensures)
-    (simp gate-then))
+    let rate = held-by _ _ _ _ (c .before .before .before .before .before .before .before .before .before .before .before .hold .ensures) (c .before .before .before .before .before .before .before .before .before .before .before .before .before .of-rate .ensures) in
+    let burst = held-by _ _ _ _ (c .before .before .before .before .before .before .before .before .hold2 .ensures) (c .before .before .before .before .before .before .before .before .before .before .of-burst .ensures) in
+    let need = held-by _ _ _ _ (c .before .before .before .before .before .hold3 .ensures) (c .before .before .before .before .before .before .before .of-need .ensures) in
+    let within = held-by _ _ _ _ (c .before .before .before .hold4 .ensures) (c .before .before .before .before .of-within .ensures) in
+    c .first-fault3 .ensures ∙ rw (c .before .first-fault2 .ensures, c .before .before .first-fault .ensures, rate, burst, need, within)
 
 pub check-row-spec : {M : Type 1} → statement M
 check-row-spec =
     tie.close
     (tie.spec
-    cast-check-range
-    check-range-requires
-    cast-check-range-2
-    cast-check-range-3
-    check-range-requires-2
-    cast-check-range-4
-    cast-check-range-5
-    check-range-requires-3
-    check-range-requires-4
+    of-rate-requires
+    cast-hold
+    hold-requires
+    of-burst-requires
+    cast-hold-2
+    hold-requires-2
+    of-need-requires
+    cast-hold-3
+    hold-requires-3
+    of-within-requires
+    hold-requires-4
     first-fault-requires
     first-fault-requires-2
     first-fault-requires-3

@@ -1,0 +1,221 @@
+-- What a reading that is not refused says of its bytes: what was read passes its checks, and its numbers' bytes stand in front of the
+-- rest. Assumes nothing.
+use mathlib.Core.Path.{_≡_, refl, ap, sym, subst, _∙_}
+use mathlib.Core.Bool.{true}
+use mathlib.Core.List.{List, [], _∷_, _++_, append-nil, append-assoc}
+use Prim.Native.Nat.{ℕ, zero, suc, _<_}
+use native.Mathlib.Omega.{arith}
+use lib.Dec.{eqb}
+use lib.ListN.{length, getD, take, drop, replicate}
+use lib.Seq.{take-at, drop-at}
+use Rattle.lists.specs.Sums.{joined, every}
+use Rattle.lists.specs.Overwriting.{writtenOver}
+use Rattle.lists.proofs.Sums.{joined-append}
+use Rattle.groups.specs.declared.reading.Reading as number
+use Rattle.groups.specs.declared.reading.Reading.the-variants.{Number, Ended, Malformed}
+use Rattle.groups.specs.Groups.{numberOf, numberBytes}
+use Rattle.groups.specs.Inverse.{Bytes, Form}
+use Rattle.groups.proofs.Inverse.{one-form}
+use Rattle.arbiter.specs.declared.refusals.Refusal.{Refusal}
+use Rattle.arbiter.specs.declared.table.Requestor.{Requestor}
+use Rattle.arbiter.specs.declared.table.Table.{Table}
+use Rattle.arbiter.specs.Refusals.{Verdict, faultless, fault, refusal, gate, then, resolve}
+use Rattle.arbiter.specs.Table.{noRequestor, requestorClear, requestorsOf, tableOf, Bounds, rateBounds, burstBounds, needBounds, withinBounds, denominatorBounds, countBounds, heldTo, rowVerdict, eachPlace, tailVerdict, rateSumVerdict, tableVerdict}
+use Rattle.arbiter.specs.Figures.{finishesVerdict, admissionVerdict}
+use Rattle.table_bytes.specs.Reading.{Read, read, stop, next, readAs, fieldRead, rowRead, rowsRead, placesRead, lastVerdict, accept, refuse, settled}
+use Rattle.table_bytes.specs.Writing.{rowNumbers}
+use Rattle.table_bytes.proofs.Readings.{Took}
+
+-- ---- what comes next has something to be read from
+
+pub stop-read : {X Y : Type 0} {why : Refusal} {x : X} {rest : List ℕ} → stop why ≡ read x rest → Y
+stop-read e = let z : _≡_ {A = ℕ} 0 1 = cc in absurd (omega arith)
+
+pub record Next {X Y : Type 0} (r : Read X) (more : X → List ℕ → Read Y) (y : Y) (rest : List ℕ) : Type 0 where
+  pub value : X
+  pub left : List ℕ
+  pub first : r ≡ read value left
+  pub second : more value left ≡ read y rest
+
+pub next-open : {X Y : Type 0} (r : Read X) (more : X → List ℕ → Read Y) (y : Y) (rest : List ℕ) → next r more ≡ read y rest → Next r more y rest
+unfolding next
+next-open (read x left) more y rest e = record { value = x; left = left; first = refl; second = e }
+next-open (stop why) more y rest e = stop-read e
+
+pub read-same : {X : Type 0} (x y : X) (left rest : List ℕ) → read x left ≡ read y rest → (x ≡ y) × (left ≡ rest)
+read-same x y left rest e = let value : x ≡ y = cc in let same : left ≡ rest = cc in (value, same)
+
+-- what holds of a reading holds of the same reading
+moved : {X : Type 0} (P : X → List ℕ → Type 0) (x y : X) (left rest : List ℕ) → read x left ≡ read y rest → P x left → P y rest
+moved P x y left rest e holds =
+    let same = read-same x y left rest e in
+    subst (P y) (same .1) (subst (λ z. P z left) (same .0) holds)
+
+-- ---- a number
+
+pub record Field (b : Bounds) (bytes : List ℕ) (x : ℕ) (rest : List ℕ) : Type 0 where
+  pub held : heldTo b x ≡ faultless
+  pub taken : ℕ
+  pub number : numberOf bytes ≡ Number x taken
+  pub behind : drop taken bytes ≡ rest
+
+checked : (v : Verdict) (x y : ℕ) (left rest : List ℕ) → resolve v (read x left) stop ≡ read y rest → (v ≡ faultless) × ((x ≡ y) × (left ≡ rest))
+checked faultless x y left rest e = (refl, read-same x y left rest e)
+checked (fault why) x y left rest e = stop-read e
+
+pub field-open : (b : Bounds) (bytes : List ℕ) (x : ℕ) (rest : List ℕ) → fieldRead b bytes ≡ read x rest → Field b bytes x rest
+unfolding fieldRead
+field-open b bytes x rest e = told (numberOf bytes) refl (next-open (readAs bytes (numberOf bytes)) _ x rest e) where
+  told : (n : number.Reading) → numberOf bytes ≡ n → Next (readAs bytes n) (λ y l. resolve (heldTo b y) (read y l) stop) x rest → Field b bytes x rest
+  told (Number y taken) f step =
+      let one = read-same y (step .value) (drop taken bytes) (step .left) (step .first) in
+      let two = checked (heldTo b (step .value)) (step .value) x (step .left) rest (step .second) in
+      record { held = rw (two .1 .0) at (two .0); taken = taken; number = f ∙ ap (λ z. Number z taken) (one .0 ∙ two .1 .0); behind = one .1 ∙ two .1 .1 }
+  told Ended f step = stop-read (step .first)
+  told Malformed f step = stop-read (step .first)
+
+pub took-held : {b : Bounds} {bytes : List ℕ} {x taken : ℕ} → Took b bytes x taken → heldTo b x ≡ faultless
+took-held {b} {bytes} {x} {taken} t = field-open b bytes x (drop taken bytes) (t .same) .held
+
+-- ---- bytes
+
+-- what stands behind some bytes are bytes
+bytes-behind : (front rest bytes : List ℕ) → bytes ≡ front ++ rest → Bytes bytes → Bytes rest
+bytes-behind [] rest bytes e all = rw e at all
+bytes-behind (x ∷ front) rest bytes e all = bytes-behind front rest (front ++ rest) refl (λ i. tail i)
+  where
+    tail : (i : ℕ) → getD (front ++ rest) i 0 < 256
+    tail i = rw e at (all (suc i))
+
+-- the bytes of some numbers stand in front of the rest
+pub record Spent (numbers bytes rest : List ℕ) : Type 0 where
+  pub split : Bytes bytes → (bytes ≡ joined numberBytes numbers ++ rest) × Bytes rest
+
+spent-none : (bytes : List ℕ) → Spent [] bytes bytes
+unfolding joined
+spent-none bytes = record { split = λ all. (refl, all) }
+
+pub spent-more : (xs ys : List ℕ) {bytes left rest : List ℕ} → Spent xs bytes left → Spent ys left rest → Spent (xs ++ ys) bytes rest
+spent-more xs ys {bytes} {left} {rest} one two = record { split = λ all. both (one .split all) (two .split (one .split all .1)) } where
+  both : (bytes ≡ joined numberBytes xs ++ left) × Bytes left → (left ≡ joined numberBytes ys ++ rest) × Bytes rest
+      → (bytes ≡ joined numberBytes (xs ++ ys) ++ rest) × Bytes rest
+  both a b = (
+    a .0 ∙ ap (λ l. joined numberBytes xs ++ l) (b .0)
+        ∙ sym (append-assoc (joined numberBytes xs) (joined numberBytes ys) rest)
+        ∙ ap (λ l. l ++ rest) (sym (joined-append numberBytes xs ys)),
+    b .1,
+  )
+
+pub field-spent : {b : Bounds} {bytes : List ℕ} {x : ℕ} {rest : List ℕ} → Field b bytes x rest → Spent (x ∷ []) bytes rest
+unfolding joined writtenOver
+field-spent {b} {bytes} {x} {rest} f = record { split = λ all. told all (one-form bytes x (f .taken) all (f .number)) } where
+  told : Bytes bytes → Form bytes x (f .taken) → (bytes ≡ joined numberBytes (x ∷ []) ++ rest) × Bytes rest
+  told all form =
+      let behind : drop (length (numberBytes x)) bytes ≡ rest = ap (λ n. drop n bytes) (sym (form .taken-all)) ∙ f .behind in
+      let same : bytes ≡ numberBytes x ++ rest = sym (form .same) ∙ ap (λ l. numberBytes x ++ l) behind in
+      (same ∙ ap (λ l. l ++ rest) (sym (append-nil (numberBytes x))), bytes-behind (numberBytes x) rest bytes same all)
+
+-- ---- a row
+
+record RowRead (d p : ℕ) (bytes : List ℕ) (r : Requestor) (rest : List ℕ) : Type 0 where
+  passes : rowVerdict d p r ≡ faultless
+  spent : Spent (rowNumbers r) bytes rest
+
+row-made : (d p : ℕ) {bytes after-n after-b after-j rest : List ℕ} {n b j l : ℕ} → Field (rateBounds d p) bytes n after-n
+    → Field (burstBounds d p) after-n b after-b → Field (needBounds p) after-b j after-j → Field (withinBounds p) after-j l rest
+    → RowRead d p bytes (record { rate = n; burst = b; need = record { 0 = j }; within = record { 0 = l } }) rest
+unfolding rowVerdict then
+row-made d p {n = n} {b = b} {j = j} {l = l} rate burst need within = record {
+  passes = rw (rate .held, burst .held, need .held, within .held);
+  spent =
+      spent-more (n ∷ []) (b ∷ j ∷ l ∷ []) (field-spent rate)
+      (spent-more (b ∷ []) (j ∷ l ∷ []) (field-spent burst) (spent-more (j ∷ []) (l ∷ []) (field-spent need) (field-spent within)));
+}
+
+row-open : (d p : ℕ) (bytes : List ℕ) (r : Requestor) (rest : List ℕ) → rowRead d p bytes ≡ read r rest → RowRead d p bytes r rest
+unfolding rowRead
+row-open d p bytes r rest e =
+    let n = next-open _ _ r rest e in
+    let b = next-open _ _ r rest (n .second) in
+    let j = next-open _ _ r rest (b .second) in
+    let l = next-open _ _ r rest (j .second) in
+    let row =
+    row-made d p (field-open (rateBounds d p) bytes (n .value) (n .left) (n .first)) (field-open (burstBounds d p) (n .left) (b .value) (b .left) (b .first))
+    (field-open (needBounds p) (b .left) (j .value) (j .left) (j .first)) (field-open (withinBounds p) (j .left) (l .value) (l .left) (l .first)) in
+    moved (RowRead d p bytes) _ r _ rest (l .second) row
+
+-- ---- rows
+
+pub record RowsRead (places d p : ℕ) (bytes : List ℕ) (rows : List Requestor) (rest : List ℕ) : Type 0 where
+  pub passes : eachPlace (rowVerdict d) p rows ≡ faultless
+  pub count : length rows ≡ places
+  pub spent : Spent (joined rowNumbers rows) bytes rest
+
+rows-open-more : {places d p : ℕ} {bytes left rest : List ℕ} {r : Requestor} {rows : List Requestor} → RowRead d p bytes r left → RowsRead places d (suc p) left rows rest
+    → RowsRead (suc places) d p bytes (r ∷ rows) rest
+unfolding eachPlace then joined
+rows-open-more {places} {d} {p} {bytes} {left} {rest} {r} {rows} one more = record {
+  passes = rw (one .passes) (more .passes);
+  count = ap suc (more .count);
+  spent = spent-more (rowNumbers r) (joined rowNumbers rows) (one .spent) (more .spent);
+}
+
+pub rows-open : (places d p : ℕ) (bytes : List ℕ) (rows : List Requestor) (rest : List ℕ) → rowsRead places d p bytes ≡ read rows rest → RowsRead places d p bytes rows rest
+unfolding rowsRead eachPlace joined
+rows-open zero d p bytes rows rest e =
+    moved (RowsRead zero d p bytes) [] rows bytes rest e (record { passes = refl; count = refl; spent = spent-none bytes })
+rows-open (suc places) d p bytes rows rest e =
+    let one = next-open (rowRead d p bytes) _ rows rest e in
+    let more = next-open (rowsRead places d (suc p) (one .left)) _ rows rest (one .second) in
+    let all = rows-open-more (row-open d p bytes (one .value) (one .left) (one .first)) (rows-open places d (suc p) (one .left) (more .value) (more .left) (more .first)) in
+    moved (RowsRead (suc places) d p bytes) (one .value ∷ more .value) rows (more .left) rest (more .second) all
+
+-- ---- a table
+
+-- rows past the last one are clear
+rest-clear : (limit n : ℕ) → every requestorClear (drop n (replicate limit noRequestor)) ≡ true
+unfolding every
+rest-clear zero zero = refl
+rest-clear zero (suc n) = refl
+rest-clear (suc limit) zero = rest-clear limit zero
+rest-clear (suc limit) (suc n) = rest-clear limit n
+
+-- a table that passes 1 to 5
+passed-five : (limit : ℕ) (t : Table) → heldTo denominatorBounds (t .denominator) ≡ faultless → heldTo (countBounds limit) (t .count) ≡ faultless
+    → tailVerdict t ≡ faultless → eachPlace (rowVerdict (t .denominator)) 0 (requestorsOf t) ≡ faultless
+    → admissionVerdict limit t ≡ then (rateSumVerdict t) (finishesVerdict t)
+unfolding admissionVerdict tableVerdict then
+passed-five limit t one two tail rows = rw (one, two, tail, rows)
+
+module _ (limit d n : ℕ) (rows : List Requestor) (count : length rows ≡ n) where
+  -- the rows of the table are those that were read
+  pub table-rows : take n (tableOf limit d n rows .requestors) ≡ rows
+  unfolding tableOf writtenOver
+  table-rows = take-at rows (drop (length rows) (replicate limit noRequestor)) n count
+
+  table-tail : tailVerdict (tableOf limit d n rows) ≡ faultless
+  unfolding tailVerdict gate tableOf writtenOver
+  table-tail = rw (drop-at rows (drop (length rows) (replicate limit noRequestor)) n count, rest-clear limit (length rows))
+
+  -- D, N and the rows have passed 1 to 5, so that admission comes to 6 and 7
+  pub table-admission : heldTo denominatorBounds d ≡ faultless → heldTo (countBounds limit) n ≡ faultless → eachPlace (rowVerdict d) 0 rows ≡ faultless
+      → admissionVerdict limit (tableOf limit d n rows) ≡ then (rateSumVerdict (tableOf limit d n rows)) (finishesVerdict (tableOf limit d n rows))
+  unfolding tableOf
+  table-admission one two rows-pass = passed-five limit (tableOf limit d n rows) one two table-tail (ap (eachPlace (rowVerdict d) 0) table-rows ∙ rows-pass)
+
+-- ---- the whole reading
+
+module _ (limit d n : ℕ) (bytes : List ℕ) where
+  -- a row was refused
+  pub settled-stop : (why : Refusal) → rowsRead n d 0 bytes ≡ stop why → refuse limit why ≡ settled limit (placesRead limit d n bytes)
+  unfolding settled placesRead next
+  settled-stop why e = rw e
+
+  -- all rows were read: 10, and then admission
+  pub settled-read : (t : Table) (rows : List Requestor) (rest : List ℕ) → heldTo denominatorBounds d ≡ faultless → heldTo (countBounds limit) n ≡ faultless
+      → rowsRead n d 0 bytes ≡ read rows rest → t ≡ tableOf limit d n rows
+      → resolve (then (gate (refusal 10) (eqb (length rest) 0) faultless) (admissionVerdict limit t)) (accept t) (refuse limit) ≡ settled limit (placesRead limit d n bytes)
+  unfolding settled placesRead next lastVerdict
+  settled-read t rows rest one two e f =
+      let opened = rows-open n d 0 bytes rows rest e in
+      rw (e, f, table-admission limit d n rows (opened .count) one two (opened .passes))

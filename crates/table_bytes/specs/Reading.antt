@@ -1,0 +1,123 @@
+-- Document 01, "Table bytes": "The order is D, N, then n, b, j, L for each place. After each number the reader hands on the rest of
+-- the bytes." And from its order of checks: "Bytes: each number is read (8, 9) and checked (1 to 5) before the next is read, then 10,
+-- 6, 7." A refused reading hands back a table whose every field is 0.
+use mathlib.Core.List.{List, [], _∷_}
+use Prim.Native.Nat.{ℕ, zero, suc}
+use lib.Dec.{eqb}
+use lib.ListN.{length, drop}
+use Rattle.groups.specs.declared.reading.Reading as number
+use Rattle.groups.specs.declared.reading.Reading.the-variants.{Number, Ended, Malformed}
+use Rattle.groups.specs.Groups.{numberOf}
+use Rattle.arbiter.specs.declared.refusals.Refusal.{Refusal}
+use Rattle.arbiter.specs.declared.table.Requestor.{Requestor}
+use Rattle.arbiter.specs.declared.table.Table.{Table}
+use Rattle.arbiter.specs.Refusals.{Verdict, faultless, refusal, refusalOf, gate, then, resolve}
+use Rattle.arbiter.specs.Answers.{Answer, accepted, refused}
+use Rattle.arbiter.specs.Table.{tableOf, noTable, Bounds, denominatorBounds, countBounds, rateBounds, burstBounds, needBounds, withinBounds, heldTo, rateSumVerdict}
+use Rattle.arbiter.specs.Figures.{finishesVerdict}
+use Rattle.table_bytes.specs.declared.fields.Field.{Field}
+use Rattle.table_bytes.specs.declared.fields.Field.the-variants as field
+use Rattle.table_bytes.specs.declared.rows.Row.{Row}
+use Rattle.table_bytes.specs.declared.rows.Row.the-variants as row
+use Rattle.table_bytes.specs.declared.reader.ReadAnswer.{ReadAnswer}
+use Rattle.table_bytes.specs.declared.reader.ReadAnswer.the-variants as code
+use Rattle.table_bytes.specs.declared.reader.ReadResult as code-result
+
+-- what a reading from the start of some bytes comes to: a value and the rest of the bytes, or a refusal
+pub data Read (X : Type 0) : Type 0 where
+  read : X → (rest : List ℕ) → Read X
+  stop : Refusal → Read X
+
+-- what comes next is read from the rest
+unfoldable pub next : {X Y : Type 0} → Read X → (X → List ℕ → Read Y) → Read Y
+next (read x rest) more = more x rest
+next (stop r) more = stop r
+
+-- a number is read: 8, 9
+abbrev pub readAs : List ℕ → number.Reading → Read ℕ
+readAs bytes (Number x taken) = read x (drop taken bytes)
+readAs bytes Ended = stop (refusal 8)
+readAs bytes Malformed = stop (refusal 9)
+
+abbrev pub numberRead : List ℕ → Read ℕ
+numberRead bytes = readAs bytes (numberOf bytes)
+
+-- and checked
+unfoldable pub fieldRead : Bounds → List ℕ → Read ℕ
+fieldRead b bytes = next (numberRead bytes) λ x rest. resolve (heldTo b x) (read x rest) stop
+
+-- n, b, j and L of place p
+unfoldable pub rowRead : ℕ → ℕ → List ℕ → Read Requestor
+rowRead d p bytes =
+    next (fieldRead (rateBounds d p) bytes) λ n rest.
+    next (fieldRead (burstBounds d p) rest) λ b rest.
+    next (fieldRead (needBounds p) rest) λ j rest.
+    next (fieldRead (withinBounds p) rest) λ l rest.
+    read (record { rate = n; burst = b; need = record { 0 = j }; within = record { 0 = l } }) rest
+
+-- so many places, from place p on
+unfoldable pub rowsRead : (places d p : ℕ) → List ℕ → Read (List Requestor)
+rowsRead zero d p bytes = read [] bytes
+rowsRead (suc places) d p bytes =
+    next (rowRead d p bytes) λ r rest.
+    next (rowsRead places d (suc p) rest) λ rows rest.
+    read (r ∷ rows) rest
+
+-- the places of a table, whose D and N have been read; `limit` is the largest N
+unfoldable pub placesRead : (limit d n : ℕ) → List ℕ → Read Table
+placesRead limit d n bytes = next (rowsRead n d 0 bytes) λ rows rest. read (tableOf limit d n rows) rest
+
+-- D, N and the places
+unfoldable pub numbersRead : ℕ → List ℕ → Read Table
+numbersRead limit bytes =
+    next (fieldRead denominatorBounds bytes) λ d rest.
+    next (fieldRead (countBounds limit) rest) λ n rest.
+    placesRead limit d n rest
+
+-- then 10, 6, 7
+unfoldable pub lastVerdict : Table → (rest : List ℕ) → Verdict
+lastVerdict t rest = then (gate (refusal 10) (eqb (length rest) 0) faultless) (then (rateSumVerdict t) (finishesVerdict t))
+
+-- what the call comes to
+pub record TableRead : Type 0 where
+  pub table : Table
+  pub answer : Answer
+
+abbrev pub accept : Table → TableRead
+accept t = record { table = t; answer = accepted }
+
+abbrev pub refuse : ℕ → Refusal → TableRead
+refuse limit r = record { table = noTable limit; answer = refused r }
+
+unfoldable pub settled : ℕ → Read Table → TableRead
+settled limit (read t rest) = resolve (lastVerdict t rest) (accept t) (refuse limit)
+settled limit (stop r) = refuse limit r
+
+-- a table from its bytes
+unfoldable pub readTable : ℕ → List ℕ → TableRead
+readTable limit bytes = settled limit (numbersRead limit bytes)
+
+-- the code's results in these values: a field and a row with how many of the bytes they took, and the call's own result
+abbrev pub fieldOf : List ℕ → Field → Read ℕ
+fieldOf bytes (field.Value x) = read (x .value) (drop (x .taken) bytes)
+fieldOf bytes (field.Refused c) = stop (refusalOf c)
+
+abbrev pub rowOf : List ℕ → Row → Read Requestor
+rowOf bytes (row.Taken r taken) = read r (drop taken bytes)
+rowOf bytes (row.Refused c) = stop (refusalOf c)
+
+abbrev pub readAnswerOf : ReadAnswer → Answer
+readAnswerOf code.Accepted = accepted
+readAnswerOf (code.Refused c) = refused (refusalOf c)
+
+abbrev pub readResultOf : code-result.ReadResult → TableRead
+readResultOf r = record { table = r .table; answer = readAnswerOf (r .answer) }
+
+-- how many bytes a field or a row took
+abbrev pub takenByField : Field → ℕ
+takenByField (field.Value x) = x .taken
+takenByField (field.Refused c) = 0
+
+abbrev pub takenByRow : Row → ℕ
+takenByRow (row.Taken r taken) = taken
+takenByRow (row.Refused c) = 0

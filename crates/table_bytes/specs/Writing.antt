@@ -1,0 +1,54 @@
+-- Document 01, "Table bytes": "A writer fills a lent buffer from its start and leaves the bytes beyond untouched." Its checks are those
+-- of a table given as numbers, then 14; a refused writing writes no byte.
+use mathlib.Core.List.{List, [], _∷_}
+use Prim.Native.Nat.{ℕ}
+use lib.Dec.{leb}
+use lib.ListN.{length}
+use Rattle.lists.specs.Sums.{joined}
+use Rattle.lists.specs.Overwriting.{writtenOver}
+use Rattle.groups.specs.Groups.{numberBytes}
+use Rattle.arbiter.specs.declared.refusals.Refusal.{Refusal}
+use Rattle.arbiter.specs.declared.table.Requestor.{Requestor}
+use Rattle.arbiter.specs.declared.table.Table.{Table}
+use Rattle.arbiter.specs.Refusals.{Verdict, faultless, refusal, refusalOf, gate, then, resolve}
+use Rattle.arbiter.specs.Table.{requestorsOf}
+use Rattle.arbiter.specs.Figures.{admissionVerdict}
+use Rattle.table_bytes.specs.declared.writer.WriteAnswer as code
+use Rattle.table_bytes.specs.declared.writer.WriteAnswer.the-variants as code-answer
+
+-- "The order is D, N, then n, b, j, L for each place."
+abbrev pub rowNumbers : Requestor → List ℕ
+rowNumbers r = r .rate ∷ r .burst ∷ r .need .0 ∷ r .within .0 ∷ []
+
+unfoldable pub tableNumbers : Table → List ℕ
+tableNumbers t = t .denominator ∷ t .count ∷ joined rowNumbers (requestorsOf t)
+
+-- a table's bytes
+unfoldable pub tableBytes : Table → List ℕ
+tableBytes t = joined numberBytes (tableNumbers t)
+
+-- the checks of a table given as numbers, then 14 by the buffer's room
+unfoldable pub writeVerdict : ℕ → Table → (room : ℕ) → Verdict
+writeVerdict limit t room = then (admissionVerdict limit t) (gate (refusal 14) (leb (length (tableBytes t)) room) faultless)
+
+-- what the call answers: how many bytes it wrote, or why it wrote none
+pub data WriteAnswer : Type 0 where
+  wrote : (bytes : ℕ) → WriteAnswer
+  refused : Refusal → WriteAnswer
+
+-- what the call comes to: its answer, and the lent buffer afterwards
+pub record TableWritten : Type 0 where
+  pub answer : WriteAnswer
+  pub buffer : List ℕ
+
+-- a table's bytes into a buffer; `limit` is the largest N
+unfoldable pub writeTable : ℕ → Table → (old : List ℕ) → TableWritten
+writeTable limit t old =
+    resolve (writeVerdict limit t (length old))
+    (record { answer = wrote (length (tableBytes t)); buffer = writtenOver (tableBytes t) old })
+    (λ r. record { answer = refused r; buffer = old })
+
+-- the code's answer in these values
+abbrev pub writeAnswerOf : code.WriteAnswer → WriteAnswer
+writeAnswerOf (code-answer.Wrote bytes) = wrote bytes
+writeAnswerOf (code-answer.Refused c) = refused (refusalOf c)

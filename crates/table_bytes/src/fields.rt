@@ -1,0 +1,45 @@
+// One number of a table, read and held to its bounds.
+use arbiter::bounds::Bounds;
+use arbiter::refusals::Cause;
+use arbiter::refusals::InputRefusal;
+use arbiter::refusals::Verdict;
+use groups::reading::Reading;
+use groups::reading::read_number;
+ghost use mathlib.Core.Path.{_≡_};
+ghost use Prim.Native.Nat.{_≤_};
+ghost use lib.ListN.{length};
+ghost use Rattle.arbiter.specs.Table.{boundsOf};
+ghost use Rattle.table_bytes.specs.Reading.{fieldRead, fieldOf, takenByField};
+
+// A number, and how many bytes it takes.
+pub(crate) struct Number {
+    pub value: u32,
+    pub taken: usize,
+}
+
+pub(crate) enum Field {
+    Value(Number),
+    Refused(Cause),
+}
+
+// The number at the start of the bytes is read (8, 9) and checked.
+pub(crate) fn read_field(bytes: &[u8], bounds: Bounds) -> Field
+    ensures { λ f. ⌜ fieldOf (now (bytes .entry)) f ≡ fieldRead (boundsOf bounds) (now (bytes .entry)) ⌝ }
+    ensures there { λ f. ⌜ takenByField f ≤ length (now (bytes .entry)) ⌝ }
+{
+    let reading = read_number(bytes);
+    match reading {
+        Reading::Number(x, taken) => {
+            let verdict = bounds.hold(x as u64);
+            match verdict {
+                Verdict::Faultless => Field::Value(Number {
+                    value: x,
+                    taken: taken,
+                }),
+                Verdict::Fault(c) => Field::Refused(c),
+            }
+        }
+        Reading::Ended => Field::Refused(Cause::Input(InputRefusal::BytesEnd)),
+        Reading::Malformed => Field::Refused(Cause::Input(InputRefusal::NumberForm)),
+    }
+}

@@ -1,0 +1,7 @@
+// A table's bytes: a reader and a writer. The arbiter knows nothing of them.
+
+mod fields;
+mod numbers;
+pub mod reader;
+mod rows;
+pub mod writer;

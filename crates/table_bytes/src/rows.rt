@@ -1,0 +1,54 @@
+// One row of a table: n, b, j and L, each read from the bytes that the one before it left.
+use crate::fields::Field;
+use crate::fields::read_field;
+use arbiter::bounds::Bounds;
+use arbiter::refusals::Cause;
+use arbiter::table::Requestor;
+use arbiter::units::Slots;
+use arbiter::units::Transfers;
+ghost use mathlib.Core.Path.{_≡_};
+ghost use Prim.Native.Nat.{_≤_};
+ghost use lib.ListN.{length};
+ghost use Rattle.table_bytes.specs.Reading.{rowRead, rowOf, takenByRow};
+
+// A row and how many bytes it takes.
+pub(crate) enum Row {
+    Taken(Requestor, usize),
+    Refused(Cause),
+}
+
+// The row of place p at the start of the bytes.
+pub(crate) fn read_row(bytes: &[u8], d: u32, p: usize) -> Row
+    ensures { λ r. ⌜ rowOf (now (bytes .entry)) r ≡ rowRead d p (now (bytes .entry)) ⌝ }
+    ensures there { λ r. ⌜ takenByRow r ≤ length (now (bytes .entry)) ⌝ }
+{
+    let n = match read_field(bytes, Bounds::of_rate(d, p)) {
+        Field::Value(x) => x,
+        Field::Refused(c) => return Row::Refused(c),
+    };
+    let after_n = n.taken;
+    let from_b = &bytes[after_n..];
+    let b = match read_field(from_b, Bounds::of_burst(d, p)) {
+        Field::Value(x) => x,
+        Field::Refused(c) => return Row::Refused(c),
+    };
+    let after_b = b.taken;
+    let from_j = &from_b[after_b..];
+    let j = match read_field(from_j, Bounds::of_need(p)) {
+        Field::Value(x) => x,
+        Field::Refused(c) => return Row::Refused(c),
+    };
+    let after_j = j.taken;
+    let from_l = &from_j[after_j..];
+    let l = match read_field(from_l, Bounds::of_within(p)) {
+        Field::Value(x) => x,
+        Field::Refused(c) => return Row::Refused(c),
+    };
+    let row = Requestor {
+        rate: n.value,
+        burst: b.value,
+        need: Transfers(j.value),
+        within: Slots(l.value as u64),
+    };
+    Row::Taken(row, after_n + after_b + after_j + l.taken)
+}
