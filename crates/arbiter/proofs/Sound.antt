@@ -7,7 +7,7 @@ use Prim.Native.Nat.{ℕ, zero, suc, _*_, _≤_, _<_}
 use native.Mathlib.Nat.{mul-le-mul-right}
 use native.Mathlib.Decide.{decLe}
 use native.Mathlib.Omega.{arith}
-use borrow.Author.Tests.{leb-true, le-leb, eqb-true, eq-eqb}
+use borrow.Author.Tests.{ltb-true, leb-true, le-leb, eqb-true, eq-eqb}
 use lib.Dec.{leb, eqb}
 use lib.ListN.{length, take, drop, length-take, length-map, List·getD-map}
 use lib.Seq.{getD-take, length-take-le}
@@ -21,7 +21,7 @@ use Rattle.arbiter.specs.declared.state.Arbiter.{Arbiter}
 use Rattle.arbiter.specs.Limits.{maxBurst, maxBacklog, maxSlot}
 use Rattle.arbiter.specs.Refusals.{Verdict, faultless, fault}
 use Rattle.arbiter.specs.Table.{rate, burst, noRequestor, requestorClear, requestorsOf, tableVerdict, requestorAt}
-use Rattle.arbiter.specs.State.{credit, backlog, noAccount, accountClear, backlogFits, accountAt, creditsHold, isFaultless, accountsHold, sound}
+use Rattle.arbiter.specs.State.{credit, backlog, noAccount, accountClear, backlogFits, accountAt, creditsHold, isFaultless, accountsHold, sound, placeVerdict}
 use Rattle.arbiter.specs.Start.{fresh, opening, startVerdict}
 use Rattle.arbiter.proofs.Checks.{gate-open, then-open, Row, Fair, fair, Admitted, admitted}
 
@@ -168,3 +168,10 @@ module _ (limit : ℕ) (t : Table) (first : ℕ) (e : startVerdict limit t first
     sums = λ k. omega (arith, total-take-map credit fresh k (t .requestors));
     clear = fresh-clear (t .count) (t .requestors) (fair limit t (start-admitted .passes) .clear);
   }
+
+-- a place that may be asked about: the state is sound and the place below N
+pub place-open : (limit : ℕ) (s : Arbiter) (p : ℕ) → placeVerdict limit s p ≡ faultless → (sound limit s ≡ true) × (p < s .table .count)
+unfolding placeVerdict
+place-open limit s p e =
+    let a = gate-open _ _ _ e in
+    (a .0, ltb-true _ _ (gate-open _ _ _ (a .1) .0))

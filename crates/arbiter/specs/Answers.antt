@@ -3,7 +3,7 @@ use Prim.Native.Nat.{ℕ}
 use Rattle.arbiter.specs.declared.refusals.Refusal.{Refusal}
 
 pub data Answer : Type 0 where
-  -- a start, a post or a reading was carried out
+  -- a start, a post, a run or a reading was carried out
   accepted : Answer
   -- a slot's stamp and the place granted
   granted : (stamp place : ℕ) → Answer

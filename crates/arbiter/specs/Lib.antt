@@ -1,5 +1,5 @@
 -- The arbiter's values and checks, in document 01's order: its limits, the table and checks 1 to 6, the figures and check 7,
--- the state and test 23, and start. Refusals stands first because every check names one.
+-- the state and test 23, start, the figures as a call, and the length of an input. Refusals stands first because every check names one.
 pub mod Limits
 pub mod Refusals
 pub mod Answers
@@ -7,3 +7,5 @@ pub mod Table
 pub mod Figures
 pub mod State
 pub mod Start
+pub mod Asked
+pub mod Input

@@ -2,14 +2,14 @@
 use mathlib.Core.Bool.{Bool, true, false, _&&_}
 use mathlib.Core.List.{List}
 use Prim.Native.Nat.{ℕ}
-use lib.Dec.{leb, eqb}
+use lib.Dec.{ltb, leb, eqb}
 use lib.ListN.{take, drop, getD}
 use Rattle.lists.specs.Sums.{total, every, upTo}
 use Rattle.arbiter.specs.declared.table.Requestor.{Requestor}
 use Rattle.arbiter.specs.declared.state.Account.{Account}
 use Rattle.arbiter.specs.declared.state.Arbiter.{Arbiter}
 use Rattle.arbiter.specs.Limits.{maxBacklog, maxSlot}
-use Rattle.arbiter.specs.Refusals.{Verdict, resolve}
+use Rattle.arbiter.specs.Refusals.{Verdict, faultless, refusal, gate, resolve}
 use Rattle.arbiter.specs.Table.{burst, tableVerdict}
 
 -- the credit c and the backlog q of an account
@@ -51,3 +51,7 @@ sound limit s =
     && (leb (s .slot .0) maxSlot
     && (accountsHold (s .table .count) (s .table .requestors) (s .accounts)
     && every accountClear (drop (s .table .count) (s .accounts))))
+
+-- what every question about a place is checked for first: 23, then 11
+unfoldable pub placeVerdict : ℕ → Arbiter → (place : ℕ) → Verdict
+placeVerdict limit s p = gate (refusal 23) (sound limit s) (gate (refusal 11) (ltb p (s .table .count)) faultless)

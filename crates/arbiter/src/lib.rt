@@ -2,8 +2,10 @@
 // and start. What calls then do to a state stands in the crate calls.
 
 pub mod admission;
+pub mod asked;
 pub mod bounds;
 mod figures;
+pub mod input;
 pub mod refusals;
 pub mod start;
 pub mod state;

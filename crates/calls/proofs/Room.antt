@@ -6,7 +6,7 @@ use lib.Seq.{getD-take}
 use Rattle.arbiter.specs.declared.state.Arbiter.{Arbiter}
 use Rattle.arbiter.specs.Limits.{maxPlaces}
 use Rattle.arbiter.specs.Table.{noRequestor, requestorAt}
-use Rattle.arbiter.specs.State.{credit, accountAt}
+use Rattle.arbiter.specs.State.{accountAt}
 use Rattle.arbiter.proofs.Sound.{Sound, sound-fair, row-at, credit-most}
 
 module _ (s : Arbiter) (v : Sound maxPlaces s) where

@@ -1,4 +1,5 @@
-// What calls do to the arbiter's state: post and slot.
+// What calls do to the arbiter's state: post, slot and run.
 
 pub mod post;
+pub mod run;
 pub mod slot;

@@ -48,7 +48,7 @@ fn is_eligible(d: u32, r: Requestor, a: Account) -> bool
 }
 
 // The first eligible place, or nobody.
-fn find(s: Arbiter) -> Grant
+pub(crate) fn find(s: Arbiter) -> Grant
     requires { ⌜ sound maxPlaces s ≡ true ⌝ }
     ensures { λ g. ⌜ g ≡ grantOf s ⌝ }
 {
@@ -115,7 +115,7 @@ fn account_after(d: u32, g: Grant, p: usize, r: Requestor, a: Account) -> Accoun
 }
 
 // Every account after a slot that granted g, and the next slot number.
-fn advance(s: Arbiter, g: Grant) -> Arbiter
+pub(crate) fn advance(s: Arbiter, g: Grant) -> Arbiter
     requires { ⌜ (sound maxPlaces s ≡ true) × (s .slot .0 < maxSlot) × (g ≡ grantOf s) ⌝ }
     ensures { λ r. ⌜ r ≡ advanced s g ⌝ }
 {

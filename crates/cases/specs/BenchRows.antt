@@ -1,16 +1,19 @@
--- Document 01, "Bench examples": the P cases 1 to 4 and 6 to 12, and case 13. Bytes are written in decimal here. Where the paper
+-- Document 01, "Bench examples": the P cases 1 to 12, and case 13. Bytes are written in decimal here. Where the paper
 -- leaves a number of a table open, one is put there under which only the check in question can fail; at D = 0 no rate passes 3.
 -- What a row shows beyond the paper's own numbers (credits and backlogs at its end) was worked out by hand.
 use mathlib.Core.Bool.{true}
 use mathlib.Core.List.{List, [], _∷_, _++_}
 use Prim.Native.Nat.{ℕ}
+use lib.IntN.{pos, negsuc}
 use lib.ListN.{replicate}
 use Rattle.arbiter.specs.declared.table.Table.{Table}
 use Rattle.arbiter.specs.Refusals.{faultless, fault, refusal, refusalAt}
 use Rattle.arbiter.specs.Answers.{accepted, granted, idle, refused}
+use Rattle.arbiter.specs.Asked as asked
+use Rattle.leads.specs.Lead.{lead}
 use Rattle.table_bytes.specs.Reading.{read, stop}
 use Rattle.calls.specs.Calls.{Call, post, slot}
-use Rattle.cases.specs.Rows.{row, table, allZero, Row, readingNumber, writingNumber, reading, admission, calling, figures, floor, standing, number, bytes, read-as, found, told, figured, floored}
+use Rattle.cases.specs.Rows.{row, table, allZero, Row, readingNumber, writingNumber, reading, admission, calling, running, leading, askingFigures, figures, floor, after, standing, number, bytes, read-as, found, told, ran, led, told-figures, figured, floored}
 
 -- Table T: D=4; place 0: n=1, b=8, j=1, L=4; place 1: n=1, b=4, j=1, L=7
 unfoldable pub tableT : Table
@@ -44,6 +47,10 @@ tableLate = table 4 2 (row 1 40 1 4 ∷ row 1 4 1 18 ∷ [])
 unfoldable pub threeEach : List Call
 threeEach = post 0 3 ∷ post 1 3 ∷ []
 
+-- case 3: what nine slots log
+unfoldable pub logNine : List ℕ
+logNine = 0 ∷ 0 ∷ 1 ∷ 0 ∷ 1 ∷ 255 ∷ 255 ∷ 1 ∷ 255 ∷ []
+
 -- case 12: place 1 always waits; 30 posted to place 0 before slot 11; slots 0 to 23
 unfoldable pub lateCalls : List Call
 lateCalls = replicate 11 slot ++ post 0 30 ∷ replicate 13 slot
@@ -69,6 +76,15 @@ benchRows =
           (accepted ∷ accepted ∷ granted 0 0 ∷ granted 1 0 ∷ granted 2 1 ∷ granted 3 0 ∷ granted 4 1 ∷ idle 5 ∷ idle 6 ∷ granted 7 1 ∷ idle 8 ∷ [])
           (standing 9 (5 ∷ 1 ∷ []) (0 ∷ 0 ∷ []));
     }
+    -- 3, as a run over a log of nine bytes
+    ∷ record {
+      asked = running (after tableT 0 threeEach) (replicate 9 90);
+      written = ran accepted logNine (standing 9 (5 ∷ 1 ∷ []) (0 ∷ 0 ∷ []));
+    }
+    -- 5: the leads over case 3's nine bytes are 3 and 3; over the first two bytes place 1 has −2
+    ∷ record { asked = leading (after tableT 0 []) 0 logNine; written = led (lead (pos 3)) }
+    ∷ record { asked = leading (after tableT 0 []) 1 logNine; written = led (lead (pos 3)) }
+    ∷ record { asked = leading (after tableT 0 []) 1 (0 ∷ 0 ∷ []); written = led (lead (negsuc 1)) }
     -- 4: after slot 2 of case 3 the credits are 3 and 3
     ∷ record {
       asked = calling tableT 0 (threeEach ++ replicate 3 slot);
@@ -99,6 +115,8 @@ benchRows =
     }
     -- 11: place 1's finish for one transfer is 2 + 3 = 5
     ∷ record { asked = figures tableFive 1 1; written = figured 6 4 2 5 }
+    -- 11, asked of a state
+    ∷ record { asked = askingFigures (after tableFive 0 []) 1 1; written = told-figures (asked.figured 2 5) }
     -- 12: in slots 0 to 23 place 1 is granted 0, 3 and 7 only: three times, where the source's two-rate line would give six
     ∷ record {
       asked = calling tableLate 0 (post 1 24 ∷ lateCalls);

@@ -1,6 +1,7 @@
--- Rows that show the definitions themselves: document 01's P cases, and edges of the checks, of the rule and of the bytes.
+-- Rows that show the definitions themselves: document 01's P cases, and edges of the checks, of the rule, of the bytes and of logs.
 pub mod Rows
 pub mod BenchRows
 pub mod EdgeRows
 pub mod BytesRows
+pub mod LogRows
 pub mod Cases

@@ -1,4 +1,4 @@
--- What a row asks, what it is told, and the one evaluator, which runs the definitions that the contracts cite.
+-- What a row asks, what it is told, and the one evaluator, which runs the definitions that the contracts cite and parts of them.
 use mathlib.Core.Bool.{Bool, true, _&&_}
 use mathlib.Core.List.{List, [], _∷_, _++_, map}
 use Prim.Native.Nat.{ℕ, _-_, _*_}
@@ -16,9 +16,13 @@ use Rattle.arbiter.specs.Table.{requestorAt, requestorsOf, tableOf}
 use Rattle.arbiter.specs.Figures.{burstsAbove, rateLeft, waitOf, finish, admissionVerdict}
 use Rattle.arbiter.specs.State.{credit, backlog, noAccount, accountAt}
 use Rattle.arbiter.specs.Start.{start}
+use Rattle.arbiter.specs.Asked.{FiguresAnswer}
+use Rattle.arbiter.specs.Asked as asked
+use Rattle.leads.specs.Lead.{LeadAnswer, leadVerdict, leadAsked}
 use Rattle.table_bytes.specs.Reading.{Read, numberRead, readTable}
 use Rattle.table_bytes.specs.Writing.{WriteAnswer, writeTable}
 use Rattle.calls.specs.Calls.{Call, post, slot, called}
+use Rattle.calls.specs.Log.{runVerdict, run}
 use Rattle.guarantees.specs.Counts.{slotsIn, grantsTo, stateAfter, heardFrom}
 use Rattle.replay.specs.Replay.{replay}
 
@@ -63,6 +67,14 @@ pub data Question : Type 0 where
   asking : Arbiter → Call → Question
   -- a lent list of calls as numbers, folded from a start into a lent list of answers
   replaying : Table → (first : ℕ) → (calls old : List ℕ) → Question
+  -- as many slots on a state as a lent log has bytes; and what the checks of a run over so many bytes find
+  running : Arbiter → (log : List ℕ) → Question
+  runChecks : Arbiter → (count : ℕ) → Question
+  -- the lead of a place over a log; and what its checks find
+  leading : Arbiter → (place : ℕ) → (log : List ℕ) → Question
+  leadChecks : Arbiter → (place count : ℕ) → Question
+  -- the figures call
+  askingFigures : Arbiter → (place j : ℕ) → Question
   -- B, R, the wait and the finish figure of a place for j transfers
   figures : Table → (place j : ℕ) → Question
   -- the floor for a place over `inside`, entered after `before` from slot 0
@@ -88,9 +100,16 @@ pub data Reply : Type 0 where
   told : (started : Answer) (answers : List Answer) → Standing → Reply
   answered : Answer → Standing → Reply
   replayed : (started : Answer) (answers : List ℕ) → Standing → Reply
+  ran : Answer → (log : List ℕ) → Standing → Reply
+  led : LeadAnswer → Reply
+  told-figures : FiguresAnswer → Reply
   figured : (B R wait finish : ℕ) → Reply
   -- the credit on entry, whether the place waits in every slot, R × D × g, and n × (R × L − B)
   floored : (credit : ℕ) (waits : Bool) (granted owed : ℕ) → Reply
+
+-- the state after calls from a start
+abbrev pub after : Table → (first : ℕ) → List Call → Arbiter
+after t first calls = stateAfter maxPlaces t first calls
 
 -- the state as a table with n places shows it
 unfoldable pub standsAt : ℕ → Arbiter → Standing
@@ -120,6 +139,11 @@ reply (asking s c) = answered (called maxPlaces s c .answer) (standsAt (s .table
 reply (replaying t first calls old) =
     let r = replay maxPlaces t first calls old in
     replayed (r .answer) (r .words) (standsAt (t .count) (r .state))
+reply (running s log) = let r = run maxPlaces s log in ran (r .answer) (r .log) (standsAt (s .table .count) (r .state))
+reply (runChecks s count) = found (runVerdict maxPlaces s count)
+reply (leading s p log) = led (leadAsked maxPlaces s p log)
+reply (leadChecks s p count) = found (leadVerdict maxPlaces s p count)
+reply (askingFigures s p j) = told-figures (asked.figures maxPlaces s p j)
 reply (figures t p j) =
     let B = burstsAbove p (requestorsOf t) in
     let R = rateLeft (t .denominator) p (requestorsOf t) in

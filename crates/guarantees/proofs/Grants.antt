@@ -1,39 +1,12 @@
--- What one grant counts for a place and for the first k places, and what a slot's answer tells of its grant. Assumes nothing.
+-- What a slot's answer tells of its grant. Assumes nothing.
 use mathlib.Core.Path.{_≡_, refl}
-use Prim.Native.Nat.{ℕ, suc}
-use lib.Dec.{ltb, leb·suc-zero, leb·suc-suc, eqb·suc-zero, eqb·suc-suc}
-use Rattle.lists.proofs.Tests.{cases}
+use Prim.Native.Nat.{ℕ}
 use Rattle.arbiter.specs.Answers.{Answer, accepted, granted, idle, refused}
 use Rattle.calls.specs.declared.slot.Grant.{Grant}
 use Rattle.calls.specs.declared.slot.Grant.the-variants.{Nobody, Place}
-use Rattle.calls.specs.Rule.{later}
+use Rattle.calls.specs.Places.{toPlace, toFirst}
 use Rattle.calls.specs.Calls.{slotAnswer}
-use Rattle.guarantees.specs.Counts.{inSlot, toPlace, toFirst}
-
-pub to-first-zero : (g : Grant) → toFirst 0 g ≡ 0
-unfolding toFirst
-to-first-zero Nobody = refl
-to-first-zero (Place i) = rw (leb·suc-zero i)
-
-pub to-first-later : (k : ℕ) (g : Grant) → toFirst (suc k) (later g) ≡ toFirst k g
-unfolding toFirst later
-to-first-later k Nobody = refl
-to-first-later k (Place i) = rw (leb·suc-suc (suc i) k)
-
-pub to-first-one : (k : ℕ) (g : Grant) → (toFirst k g ≡ 0 → ⊥) → toFirst k g ≡ 1
-unfolding toFirst
-to-first-one k Nobody h = absurd (h refl)
-to-first-one k (Place i) h = cases (ltb i k) (λ e. rw e) (λ e. absurd (h (rw e)))
-
-pub to-place-later-zero : (g : Grant) → toPlace 0 (later g) ≡ 0
-unfolding toPlace later
-to-place-later-zero Nobody = refl
-to-place-later-zero (Place i) = rw (eqb·suc-zero i)
-
-pub to-place-later : (p : ℕ) (g : Grant) → toPlace (suc p) (later g) ≡ toPlace p g
-unfolding toPlace later
-to-place-later p Nobody = refl
-to-place-later p (Place i) = rw (eqb·suc-suc i p)
+use Rattle.guarantees.specs.Counts.{inSlot}
 
 -- an accepted slot's answer is read by its grant
 pub in-slot-answer {ℓ} : {X : Type ℓ} (x : X) (f : Grant → X) (stamp : ℕ) (g : Grant) → inSlot x f (slotAnswer stamp g) ≡ f g

@@ -26,7 +26,7 @@ use Rattle.calls.specs.Rule.{eligible, later, firstEligible, served, passed, af
 use Rattle.calls.specs.Calls.{Call, post, slot, grantOf, advanced, filled, slotAnswer, done, ruleVerdict, outcome, ruled, called}
 use Rattle.guarantees.specs.Counts.{startState}
 use Rattle.guarantees.specs.Isolation.{Isolation, Post-apart, concerns, concerning, view, Shown, shows, shown}
-use Rattle.guarantees.proofs.Head.{after-later, first-no-account, after-no-account}
+use Rattle.calls.proofs.Head.{after-later, first-no-account, after-no-account}
 use Rattle.guarantees.proofs.Step.{by-kind}
 use Rattle.guarantees.proofs.Sound.{sound-next, call-ruled}
 use Rattle.guarantees.proofs.Start.{start-state-sound}

@@ -1,8 +1,5 @@
--- From the ground up: one grant, one slot, one call, then lists of calls. The theorems' files have the names of their statements'.
+-- From the ground up: a slot's answer, one call, then lists of calls; what one slot does stands in calls. The theorems' files have the names of their statements'.
 pub mod Grants
-pub mod Head
-pub mod Slots
-pub mod Credits
 pub mod Turns
 pub mod Step
 pub mod Sound
@@ -15,3 +12,5 @@ pub mod Conservation
 pub mod Need
 pub mod Isolation
 pub mod Stamps
+pub mod RunSlots
+pub mod Leads

@@ -12,20 +12,22 @@ use Rattle.lists.proofs.Runs.{along}
 use Rattle.arbiter.specs.declared.table.Table.{Table}
 use Rattle.arbiter.specs.declared.state.Account.{Account}
 use Rattle.arbiter.specs.declared.state.Arbiter.{Arbiter}
-use Rattle.arbiter.specs.Table.{rate, requestorsOf, requestorAt}
+use Rattle.arbiter.specs.Table.{requestorsOf, requestorAt}
 use Rattle.arbiter.specs.Figures.{burstsAbove, ratesAbove, rateLeft}
 use Rattle.arbiter.specs.State.{credit, backlog, accountAt}
 use Rattle.arbiter.proofs.Sound.{Sound, rates-most, sound-fair}
 use Rattle.calls.specs.Rule.{firstEligible}
 use Rattle.calls.specs.Calls.{Call, grantOf, advanced, ruled}
-use Rattle.guarantees.proofs.Head.{slotted}
-use Rattle.guarantees.specs.Counts.{toPlace, slotsIn, grantsTo, Waits, WaitsAt}
+use Rattle.calls.proofs.Head.{slotted}
+use Rattle.calls.specs.Places.{toPlace}
+use Rattle.guarantees.specs.Counts.{slotsIn, grantsTo, Waits, WaitsAt}
 use Rattle.guarantees.specs.SharperFloor.{Sharp, Sharper, Sharper-floor}
 use Rattle.guarantees.proofs.Grants.{slotIn, grantTo, slot-in, grant-to, slot-meets}
-use Rattle.guarantees.proofs.Credits.{Roomy, slotted-rise, slotted-within}
+use Rattle.calls.proofs.Credits.{Roomy, slotted-rise, slotted-within}
 use Rattle.guarantees.proofs.Turns.{Turn, above, own, short, turn}
 use Rattle.guarantees.proofs.Step.{by-kind, table-stands, filled-credits, filled-credit}
-use Rattle.guarantees.proofs.Sound.{places-count, sound-roomy, sound-credits, sound-of, sound-next, answers-ruled}
+use Rattle.calls.proofs.Kept.{places-count, sound-roomy, sound-credits}
+use Rattle.guarantees.proofs.Sound.{sound-of, sound-next, answers-ruled}
 use Rattle.guarantees.proofs.CreditSums.{rate-left}
 
 -- The invariant, over numbers: D, the place's n, R, B and its credit on entry.

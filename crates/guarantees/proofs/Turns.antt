@@ -12,9 +12,9 @@ use Rattle.arbiter.specs.Table.{requestorAt}
 use Rattle.calls.specs.declared.slot.Grant.the-variants.{Nobody}
 use Rattle.calls.specs.Rule.{firstEligible, served, after}
 use Rattle.calls.proofs.Accounts.{passed-waiting}
-use Rattle.guarantees.proofs.Head.{slotted, Passed, by-head}
-use Rattle.guarantees.specs.Counts.{toPlace, toFirst}
-use Rattle.guarantees.proofs.Grants.{to-first-zero}
+use Rattle.calls.proofs.Head.{slotted, Passed, by-head}
+use Rattle.calls.specs.Places.{toPlace, toFirst}
+use Rattle.calls.proofs.Grants.{to-first-zero}
 
 pub data Turn (d p : ℕ) (rs : List Requestor) (accounts : List Account) : Type 0 where
   above : toFirst p (firstEligible d rs accounts) ≡ 1 → toPlace p (firstEligible d rs accounts) ≡ 0

@@ -3,9 +3,7 @@
 use mathlib.Core.List.{List, [], _∷_}
 use mathlib.Core.Path.{_≡_}
 use Prim.Native.Nat.{ℕ, zero, suc, _<_}
-use lib.Dec.{ltb, eqb}
 use lib.ListN.{length}
-use Rattle.lists.specs.Choices.{pick}
 use Rattle.lists.specs.Sums.{total}
 use Rattle.lists.specs.Runs
 use Rattle.arbiter.specs.declared.table.Table.{Table}
@@ -15,6 +13,7 @@ use Rattle.arbiter.specs.State.{backlog, accountAt}
 use Rattle.arbiter.specs.Start.{start}
 use Rattle.calls.specs.declared.slot.Grant.{Grant}
 use Rattle.calls.specs.declared.slot.Grant.the-variants.{Nobody, Place}
+use Rattle.calls.specs.Places.{toPlace, toFirst}
 use Rattle.calls.specs.Calls.{Call, ruled, called}
 
 -- f of the grant of an accepted slot, x of any other answer
@@ -23,16 +22,6 @@ inSlot x f accepted = x
 inSlot x f (granted stamp p) = f (Place p)
 inSlot x f (idle stamp) = f Nobody
 inSlot x f (refused r) = x
-
--- 1 if the grant is to place p, 0 if not
-unfoldable pub toPlace : ℕ → Grant → ℕ
-toPlace p Nobody = 0
-toPlace p (Place i) = pick (eqb i p) 1 0
-
--- 1 if the grant is to one of the first k places, 0 if not
-unfoldable pub toFirst : ℕ → Grant → ℕ
-toFirst k Nobody = 0
-toFirst k (Place i) = pick (ltb i k) 1 0
 
 -- the number of accepted slots: L of a stretch
 abbrev pub slotsIn : List Answer → ℕ

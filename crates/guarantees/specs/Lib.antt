@@ -1,5 +1,6 @@
--- What is promised of every list of posts and slots, for general N. Counts has what is counted; each other file states what one
--- paragraph of document 01 promises, and its proof is the file of the same name in proofs/.
+-- What is promised of every list of posts and slots and of every run, for general N. Counts has what is counted; each other file states
+-- what one paragraph of document 01 promises or, where it says so, what follows from that, and its proof is the file of the same name
+-- in proofs/.
 pub mod Counts
 pub mod Demand3
 pub mod CreditSums
@@ -8,3 +9,5 @@ pub mod SharperFloor
 pub mod Conservation
 pub mod Isolation
 pub mod Stamps
+pub mod RunSlots
+pub mod Leads

@@ -11,12 +11,12 @@ use Rattle.arbiter.specs.declared.table.Requestor.{Requestor}
 use Rattle.arbiter.specs.declared.state.Account.{Account}
 use Rattle.arbiter.specs.Table.{rate, burst, requestorAt}
 use Rattle.arbiter.specs.State.{credit, backlog, accountAt}
 use Rattle.calls.specs.declared.slot.Grant.the-variants.{Nobody}
 use Rattle.calls.specs.Rule.{firstEligible, served, after}
 use Rattle.calls.proofs.Accounts.{passed-most, passed-within}
-use Rattle.guarantees.proofs.Head.{slotted, by-head, slotted-no-place, slotted-no-account, first-no-place, first-no-account}
-use Rattle.guarantees.specs.Counts.{toFirst}
-use Rattle.guarantees.proofs.Grants.{to-first-zero, to-first-one}
+use Rattle.calls.proofs.Head.{slotted, by-head, slotted-no-place, slotted-no-account, first-no-place, first-no-account}
+use Rattle.calls.specs.Places.{toFirst}
+use Rattle.calls.proofs.Grants.{to-first-zero, to-first-one}
 
 -- a place that waits has a burst for one transfer
 abbrev pub Roomy : ℕ → List Requestor → List Account → Type 0

@@ -9,12 +9,12 @@ use Rattle.lists.proofs.Tests.{cases}
 use Rattle.arbiter.specs.declared.table.Requestor.{Requestor}
 use Rattle.arbiter.specs.declared.state.Account.{Account}
 use Rattle.arbiter.specs.State.{backlog}
 use Rattle.calls.specs.declared.slot.Grant.{Grant}
 use Rattle.calls.specs.declared.slot.Grant.the-variants.{Nobody, Place}
 use Rattle.calls.proofs.Accounts.{eligible-true, eligible-false}
 use Rattle.calls.specs.Rule.{eligible, later, firstEligible, served, passed, after}
-use Rattle.guarantees.specs.Counts.{toPlace, toFirst}
-use Rattle.guarantees.proofs.Grants.{to-first-later, to-place-later-zero, to-place-later}
+use Rattle.calls.specs.Places.{toPlace, toFirst}
+use Rattle.calls.proofs.Grants.{to-first-later, to-place-later-zero, to-place-later}
 
 -- the accounts after a slot: the search, and what it makes of them
 unfoldable pub slotted : ℕ → List Requestor → List Account → List Account

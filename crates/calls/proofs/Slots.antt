@@ -8,11 +8,11 @@ use lib.ListN.{length, drop}
 use Rattle.arbiter.specs.declared.table.Requestor.{Requestor}
 use Rattle.arbiter.specs.declared.state.Account.{Account}
 use Rattle.arbiter.specs.State.{backlog, accountAt}
 use Rattle.calls.specs.declared.slot.Grant.{Grant}
 use Rattle.calls.specs.declared.slot.Grant.the-variants.{Nobody, Place}
 use Rattle.calls.specs.Rule.{firstEligible, served, passed, after}
-use Rattle.guarantees.proofs.Head.{slotted, by-head, slotted-no-place, slotted-no-account, first-no-place, first-no-account}
-use Rattle.guarantees.specs.Counts.{toPlace}
+use Rattle.calls.proofs.Head.{slotted, by-head, slotted-no-place, slotted-no-account, first-no-place, first-no-account}
+use Rattle.calls.specs.Places.{toPlace}
 
 pub after-length : (d : ℕ) (g : Grant) (rs : List Requestor) (accounts : List Account) → length (after d g rs accounts) ≡ length accounts
 unfolding after

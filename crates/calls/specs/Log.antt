@@ -1,0 +1,63 @@
+-- Document 01: "A run does as many slots as the lent log has bytes, writing the place granted, or 255 for idle; each further slot is
+-- given only the unwritten rest of the log. An empty log means no slot." Run: 23, 13, 22.
+use mathlib.Core.List.{List, [], _∷_}
+use Prim.Native.Nat.{ℕ, zero, suc, _+_}
+use lib.Dec.{leb}
+use lib.ListN.{length}
+use Rattle.arbiter.specs.declared.state.Arbiter.{Arbiter}
+use Rattle.arbiter.specs.Limits.{maxSlot}
+use Rattle.arbiter.specs.Refusals.{Verdict, faultless, refusal, refusalOf, gate, then, resolve}
+use Rattle.arbiter.specs.Answers.{Answer, accepted, refused}
+use Rattle.arbiter.specs.State.{sound}
+use Rattle.arbiter.specs.Input.{inputVerdict}
+use Rattle.calls.specs.declared.slot.Grant.{Grant}
+use Rattle.calls.specs.declared.slot.Grant.the-variants.{Nobody, Place}
+use Rattle.calls.specs.declared.run.RunAnswer.{RunAnswer}
+use Rattle.calls.specs.declared.run.RunAnswer.the-variants as code
+use Rattle.calls.specs.declared.run.RunResult.{RunResult}
+use Rattle.calls.specs.Calls.{grantOf, advanced}
+
+-- the byte of a slot
+abbrev pub grantByte : Grant → ℕ
+grantByte Nobody = 255
+grantByte (Place p) = p
+
+-- the state after so many slots, and their log
+unfoldable pub slotsState : ℕ → Arbiter → Arbiter
+slotsState zero s = s
+slotsState (suc slots) s = slotsState slots (advanced s (grantOf s))
+
+unfoldable pub slotsLog : ℕ → Arbiter → List ℕ
+slotsLog zero s = []
+slotsLog (suc slots) s = grantByte (grantOf s) ∷ slotsLog slots (advanced s (grantOf s))
+
+-- check 22 of a run: "slot number plus log length would pass it"
+unfoldable pub slotsVerdict : (first slots : ℕ) → Verdict
+slotsVerdict first slots = gate (refusal 22) (leb (first + slots) maxSlot) faultless
+
+-- 23, 13, 22
+unfoldable pub runVerdict : ℕ → Arbiter → (bytes : ℕ) → Verdict
+runVerdict limit s bytes =
+    gate (refusal 23) (sound limit s)
+    (then (inputVerdict bytes) (slotsVerdict (s .slot .0) bytes))
+
+-- what a run comes to: the state, the answer, and the lent log afterwards
+pub record Outcome : Type 0 where
+  pub state : Arbiter
+  pub answer : Answer
+  pub log : List ℕ
+
+-- `limit` is the largest N
+unfoldable pub run : ℕ → Arbiter → (old : List ℕ) → Outcome
+run limit s old =
+    resolve (runVerdict limit s (length old))
+    (record { state = slotsState (length old) s; answer = accepted; log = slotsLog (length old) s })
+    (λ r. record { state = s; answer = refused r; log = old })
+
+-- the code's result and the lent log in these values
+abbrev pub runAnswerOf : RunAnswer → Answer
+runAnswerOf code.Ran = accepted
+runAnswerOf (code.Refused c) = refused (refusalOf c)
+
+abbrev pub outcomeOf : RunResult → (log : List ℕ) → Outcome
+outcomeOf r log = record { state = r .state; answer = runAnswerOf (r .answer); log = log }

@@ -1,0 +1,3 @@
+-- The laws of a count and of a difference of two products.
+pub mod Counts
+pub mod Signed

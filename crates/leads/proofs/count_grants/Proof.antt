@@ -1,0 +1,62 @@
+-- `leads::count_grants` meets its contract. The loop's invariant, `Counted`: of the first i bytes, k are p. Assumes nothing.
+use mathlib.Core.Logic.{⊎-elim}
+use mathlib.Core.Path.{sym, _∙_}
+use Prim.Native.Nat.{_-_}
+use native.Mathlib.Omega.{arith}
+use borrow.Author.Needs.{needs}
+use lib.ListN.{length}
+use Rattle.leads.proofs.Counts.{Counted, counted-none, counted-same, counted-other, counted-all}
+use Rattle.leads.proofs.count_grants.Statement.{statement}
+use Rattle.leads.proofs.count_grants.Tie as tie
+
+abbrev Inv-loop : tie.InvT-loop
+Inv-loop log p k₀ i₀ k i = Counted p log k i
+
+abbrev μ-loop : tie.MeasureT-loop
+μ-loop log p k₀ i₀ k i = length log - i
+
+loop-holds : tie.Need-loop-holds Inv-loop μ-loop
+loop-holds c = counted-none _ _
+
+shared-slice-read-wide : tie.Need-shared-slice-read-wide Inv-loop μ-loop
+shared-slice-read-wide c = omega arith
+
+wide-requires : tie.Need-wide-requires Inv-loop μ-loop
+wide-requires c κs = search needs
+
+add-k : tie.Need-add-k Inv-loop μ-loop
+add-k c = omega arith
+
+add-i : tie.Need-add-i Inv-loop μ-loop
+add-i c = omega arith
+
+loop-less : tie.Need-loop-less Inv-loop μ-loop
+loop-less c = omega arith
+
+loop-again : tie.Need-loop-again Inv-loop μ-loop
+loop-again c =
+    let l = c .before .before .before .before .loop in
+    let inside = c .before .before .before .loop-test .taken in
+    let read = c .before .wide .ensures in
+    ⊎-elim
+    (λ w. rw (w .1) (counted-same (l .inv) inside (sym read ∙ w .0 .taken)))
+    (λ w. rw (w .1) (counted-other (l .inv) inside (λ e. w .0 .left (read ∙ e))))
+    (c .if1 .came)
+
+returns : tie.Need-returns Inv-loop μ-loop
+returns c = counted-all (c .before .loop .inv) (c .loop-test .left)
+
+pub count-grants-spec : {M : Type 1} → statement M
+count-grants-spec =
+    tie.close
+    (tie.spec
+    Inv-loop
+    μ-loop
+    loop-holds
+    shared-slice-read-wide
+    wide-requires
+    add-k
+    add-i
+    loop-less
+    loop-again
+    returns)

@@ -1,0 +1,43 @@
+-- Document 01: "The lead is a signed number: D times the log bytes equal to p, less n times the log's length." Lead: 23, 11, 13.
+use mathlib.Core.List.{List}
+use Prim.Native.Nat.{ℕ, _*_}
+use lib.Dec.{eqb}
+use lib.IntN.{ℤ, pos, _-ℤ_}
+use lib.ListN.{length}
+use Rattle.lists.specs.Choices.{pick}
+use Rattle.lists.specs.Sums.{total}
+use Rattle.arbiter.specs.declared.refusals.Refusal.{Refusal}
+use Rattle.arbiter.specs.declared.state.Arbiter.{Arbiter}
+use Rattle.arbiter.specs.Refusals.{Verdict, refusalOf, then, resolve}
+use Rattle.arbiter.specs.Table.{requestorAt}
+use Rattle.arbiter.specs.State.{placeVerdict}
+use Rattle.arbiter.specs.Input.{inputVerdict}
+use Rattle.leads.specs.declared.LeadAnswer as code
+use Rattle.leads.specs.declared.LeadAnswer.the-variants as code-answer
+
+-- the log bytes equal to p
+abbrev pub bytesEqual : ℕ → List ℕ → ℕ
+bytesEqual p log = total (λ x. pick (eqb x p) 1 0) log
+
+-- the lead of place p with rate n
+unfoldable pub leadOf : (d n p : ℕ) → List ℕ → ℤ
+leadOf d n p log = pos (d * bytesEqual p log) -ℤ pos (n * length log)
+
+pub data LeadAnswer : Type 0 where
+  lead : ℤ → LeadAnswer
+  refused : Refusal → LeadAnswer
+
+unfoldable pub leadVerdict : ℕ → Arbiter → (place bytes : ℕ) → Verdict
+leadVerdict limit s p bytes = then (placeVerdict limit s p) (inputVerdict bytes)
+
+-- `limit` is the largest N
+unfoldable pub leadAsked : ℕ → Arbiter → (place : ℕ) → List ℕ → LeadAnswer
+leadAsked limit s p log =
+    resolve (leadVerdict limit s p (length log))
+    (lead (leadOf (s .table .denominator) (requestorAt p (s .table .requestors) .rate) p log))
+    refused
+
+-- the code's answer in these values
+abbrev pub leadAnswerOf : code.LeadAnswer → LeadAnswer
+leadAnswerOf (code-answer.Lead x) = lead x
+leadAnswerOf (code-answer.Refused c) = refused (refusalOf c)

@@ -1,0 +1,2 @@
+-- The lead of a place over a log.
+pub mod Lead
