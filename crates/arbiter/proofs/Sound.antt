@@ -91,6 +91,10 @@ module _ (limit : ℕ) (t : Table) (rows : length (t .requestors) ≡ limit) (f 
   row-at p h = f .row p (omega (arith, places-length))
 
 module _ (limit : ℕ) (s : Arbiter) where
+  pub sound-table : sound limit s ≡ true → tableVerdict limit (s .table) ≡ faultless
+  unfolding sound
+  sound-table e = is-faultless-true _ (and-true (isFaultless (tableVerdict limit (s .table))) _ e .0)
+
   pub sound-open : length (s .table .requestors) ≡ limit → length (s .accounts) ≡ limit → sound limit s ≡ true → Sound limit s
   unfolding sound accountsHold
   sound-open rows accounts e =
@@ -98,7 +102,7 @@ module _ (limit : ℕ) (s : Arbiter) where
       let b = and-true (leb (s .slot .0) maxSlot) _ (a .1) in
       let c = and-true (accountsHold (s .table .count) (s .table .requestors) (s .accounts)) _ (b .1) in
       let f = and-true (every backlogFits (take (s .table .count) (s .accounts))) _ (c .0) in
-      let passes = is-faultless-true _ (a .0) in
+      let passes = sound-table e in
       record {
         rows = rows;
         accounts = accounts;

@@ -45,7 +45,7 @@ pub(crate) fn opening_accounts(t: Table) -> [Account; Arbiter::MAX_PLACES]
 }
 
 // The state whose every field is 0.
-fn no_state() -> Arbiter
+pub fn no_state() -> Arbiter
     ensures { λ r. ⌜ r ≡ noState maxPlaces ⌝ }
 {
     let empty = Account {

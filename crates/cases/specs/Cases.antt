@@ -6,9 +6,10 @@ use Rattle.cases.specs.BenchRows.{benchRows}
 use Rattle.cases.specs.EdgeRows.{limitRows, orderRows, stateRows, ruleRows, replayRows}
 use Rattle.cases.specs.BytesRows.{numberRows, readRows, writeRows}
 use Rattle.cases.specs.LogRows.{runRows, leadRows, figureRows}
+use Rattle.cases.specs.ListingRows.{listingRows}
 
 abbrev pub rows : List Row
-rows = benchRows ++ limitRows ++ orderRows ++ stateRows ++ ruleRows ++ replayRows ++ numberRows ++ readRows ++ writeRows ++ runRows ++ leadRows ++ figureRows
+rows = benchRows ++ limitRows ++ orderRows ++ stateRows ++ ruleRows ++ replayRows ++ numberRows ++ readRows ++ writeRows ++ runRows ++ leadRows ++ figureRows ++ listingRows
 
 abbrev pub All-pass : Type 0
 All-pass = map (λ r. reply (r .asked)) rows ≡ map (λ r. r .written) rows

@@ -1,7 +1,8 @@
--- Rows that show the definitions themselves: document 01's P cases, and edges of the checks, of the rule, of the bytes and of logs.
+-- Rows that show the definitions themselves: document 01's P cases, and edges of the checks, of the rule, of the bytes, of logs and of slotlist.
 pub mod Rows
 pub mod BenchRows
 pub mod EdgeRows
 pub mod BytesRows
 pub mod LogRows
+pub mod ListingRows
 pub mod Cases

@@ -25,6 +25,7 @@ use Rattle.calls.specs.Calls.{Call, post, slot, called}
 use Rattle.calls.specs.Log.{runVerdict, run}
 use Rattle.guarantees.specs.Counts.{slotsIn, grantsTo, stateAfter, heardFrom}
 use Rattle.replay.specs.Replay.{replay}
+use Rattle.listing.specs.Listing.{listing}
 
 -- n, b, j and L of one place
 abbrev pub row : ℕ → ℕ → ℕ → ℕ → Requestor
@@ -79,6 +80,8 @@ pub data Question : Type 0 where
   figures : Table → (place j : ℕ) → Question
   -- the floor for a place over `inside`, entered after `before` from slot 0
   floor : Table → (before inside : List Call) → (place : ℕ) → Question
+  -- what slotlist prints for its input bytes
+  listingOf : (input : List ℕ) → Question
 
 -- how a state stands: its slot number, and the credits and backlogs of the first N places
 pub record Standing : Type 0 where
@@ -153,6 +156,7 @@ reply (floor t before inside p) =
     let heard = heardFrom maxPlaces s inside in
     floorSides (credit (accountAt p (s .accounts))) (waitsThroughout p s inside) (t .denominator) (requestorAt p (requestorsOf t) .rate)
     (rateLeft (t .denominator) p (requestorsOf t)) (burstsAbove p (requestorsOf t)) (slotsIn heard) (grantsTo p heard)
+reply (listingOf input) = bytes (listing maxPlaces input)
 
 -- a question, and the reply that is written for it: in BenchRows what the paper says, elsewhere what was worked out by hand
 pub record Row : Type 0 where

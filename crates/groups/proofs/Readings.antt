@@ -1,5 +1,5 @@
 -- Reading group by group: what the next byte decides, and how many bytes a reading takes. Assumes nothing.
-use mathlib.Core.Path.{_≡_, refl}
+use mathlib.Core.Path.{_≡_, refl, ap}
 use mathlib.Core.Bool.{Bool, true, false}
 use mathlib.Core.List.{List, [], _∷_}
 use Prim.Native.Nat.{ℕ, zero, suc, _+_, _-_, _*_, _≤_, _<_}
@@ -102,3 +102,22 @@ number-takes (x ∷ bytes) = by-size (later-takes maxLater bytes .1) (ltb x 128)
       → takenBy (pick small (Number x 1) (combined x (laterGroups maxLater bytes))) ≤ suc (length bytes)
   by-size rest true = omega arith
   by-size rest false = omega (arith, combined-takes x (laterGroups maxLater bytes))
+
+-- ---- a number takes a byte at least
+
+combined-some : (x : ℕ) (high : Reading) (y taken : ℕ) → combined x high ≡ Number y taken → 1 ≤ taken
+unfolding combined
+combined-some x (Number h more) y taken e = by-size (leb (x - 128 + 128 * h) maxNumber) e where
+  by-size : (small : Bool) → pick small (Number (x - 128 + 128 * h) (suc more)) Malformed ≡ Number y taken → 1 ≤ taken
+  by-size true f = let same : suc more ≡ taken = ap takenBy f in omega arith
+  by-size false f = let z : _≡_ {A = ℕ} 0 1 = cc in absurd (omega arith)
+combined-some x Ended y taken e = let z : _≡_ {A = ℕ} 0 1 = cc in absurd (omega arith)
+combined-some x Malformed y taken e = let z : _≡_ {A = ℕ} 0 1 = cc in absurd (omega arith)
+
+pub number-some : (bytes : List ℕ) (y taken : ℕ) → numberOf bytes ≡ Number y taken → 1 ≤ taken
+unfolding numberOf
+number-some [] y taken e = let z : _≡_ {A = ℕ} 0 1 = cc in absurd (omega arith)
+number-some (x ∷ bytes) y taken e = by-size (ltb x 128) e where
+  by-size : (small : Bool) → pick small (Number x 1) (combined x (laterGroups maxLater bytes)) ≡ Number y taken → 1 ≤ taken
+  by-size true f = let same : 1 ≡ taken = ap takenBy f in omega arith
+  by-size false f = combined-some x (laterGroups maxLater bytes) y taken f

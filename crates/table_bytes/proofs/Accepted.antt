@@ -22,7 +22,7 @@ use Rattle.arbiter.specs.declared.table.Table.{Table}
 use Rattle.arbiter.specs.Refusals.{Verdict, faultless, fault, refusal, gate, then, resolve}
 use Rattle.arbiter.specs.Table.{noRequestor, requestorClear, requestorsOf, tableOf, Bounds, rateBounds, burstBounds, needBounds, withinBounds, denominatorBounds, countBounds, heldTo, rowVerdict, eachPlace, tailVerdict, rateSumVerdict, tableVerdict}
 use Rattle.arbiter.specs.Figures.{finishesVerdict, admissionVerdict}
-use Rattle.table_bytes.specs.Reading.{Read, read, stop, next, readAs, fieldRead, rowRead, rowsRead, placesRead, lastVerdict, accept, refuse, settled}
+use Rattle.table_bytes.specs.Reading.{Read, read, stop, next, readAs, fieldRead, itemsRead, rowRead, rowsRead, placesRead, lastVerdict, accept, refuse, settled}
 use Rattle.table_bytes.specs.Writing.{rowNumbers}
 use Rattle.table_bytes.proofs.Readings.{Took}
 
@@ -161,7 +161,7 @@ rows-open-more {places} {d} {p} {bytes} {left} {rest} {r} {rows} one more = reco
 }
 
 pub rows-open : (places d p : ℕ) (bytes : List ℕ) (rows : List Requestor) (rest : List ℕ) → rowsRead places d p bytes ≡ read rows rest → RowsRead places d p bytes rows rest
-unfolding rowsRead eachPlace joined
+unfolding itemsRead eachPlace joined
 rows-open zero d p bytes rows rest e =
     moved (RowsRead zero d p bytes) [] rows bytes rest e (record { passes = refl; count = refl; spent = spent-none bytes })
 rows-open (suc places) d p bytes rows rest e =

@@ -20,30 +20,34 @@ use Rattle.arbiter.specs.Table.{noRequestor, tableOf, Bounds, denominatorBounds
 use Rattle.table_bytes.specs.declared.fields.Number as code
 use Rattle.table_bytes.specs.declared.fields.Field.{Field}
 use Rattle.table_bytes.specs.declared.fields.Field.the-variants as field
-use Rattle.table_bytes.specs.Reading.{Read, read, stop, next, fieldRead, rowRead, rowsRead, placesRead, numbersRead, refuse, settled, readTable, fieldOf, takenByField}
+use Rattle.table_bytes.specs.Reading.{Read, read, stop, next, numberRead, fieldRead, itemsRead, rowRead, placesRead, numbersRead, refuse, settled, readTable, fieldOf, takenByField}
 
 -- ---- one number
 
-pub number-there : (bytes : List ℕ) (x taken : ℕ) → numberOf bytes ≡ Number x taken → taken ≤ length bytes
-number-there bytes x taken n = rw n at (number-takes bytes)
+module _ (bytes : List ℕ) where
+  pub value-read : (x taken : ℕ) → numberOf bytes ≡ Number x taken → (read x (drop taken bytes) ≡ numberRead bytes) × (taken ≤ length bytes)
+  value-read x taken n = (rw n, rw n at (number-takes bytes))
 
-module _ (b : Bounds) (bytes : List ℕ) where
-  module _ (x taken : ℕ) (n : numberOf bytes ≡ Number x taken) where
-    pub field-value : heldTo b x ≡ faultless → read x (drop taken bytes) ≡ fieldRead b bytes
+  pub value-ended : numberOf bytes ≡ Ended → (stop (refusal 8) ≡ numberRead bytes) × (0 ≤ length bytes)
+  value-ended n = (rw n, omega arith)
+
+  pub value-malformed : numberOf bytes ≡ Malformed → (stop (refusal 9) ≡ numberRead bytes) × (0 ≤ length bytes)
+  value-malformed n = (rw n, omega arith)
+
+-- a number that was read, and its bounds
+module _ (b : Bounds) (bytes : List ℕ) (f : Field) (reads : fieldOf bytes f ≡ numberRead bytes) where
+  module _ (x : code.Number) (n : f ≡ field.Value x) where
+    pub field-value : heldTo b (x .value) ≡ faultless → read (x .value) (drop (x .taken) bytes) ≡ fieldRead b bytes
     unfolding fieldRead next
-    field-value v = rw (n, v)
+    field-value v = rw (← reads, n, v)
 
-    pub field-fault : (r : Refusal) → heldTo b x ≡ fault r → stop r ≡ fieldRead b bytes
+    pub field-fault : (r : Refusal) → heldTo b (x .value) ≡ fault r → stop r ≡ fieldRead b bytes
     unfolding fieldRead next
-    field-fault r v = rw (n, v)
+    field-fault r v = rw (← reads, n, v)
 
-  pub field-ended : numberOf bytes ≡ Ended → stop (refusal 8) ≡ fieldRead b bytes
+  pub field-stop : (c : Cause) → f ≡ field.Refused c → stop (refusalOf c) ≡ fieldRead b bytes
   unfolding fieldRead next
-  field-ended n = rw n
-
-  pub field-malformed : numberOf bytes ≡ Malformed → stop (refusal 9) ≡ fieldRead b bytes
-  unfolding fieldRead next
-  field-malformed n = rw n
+  field-stop c n = rw (← reads, n)
 
 -- a number within its bounds stands at the start of the bytes
 pub record Took (b : Bounds) (bytes : List ℕ) (x taken : ℕ) : Type 0 where
@@ -113,82 +117,99 @@ pub row-begins : (d p : ℕ) (bytes : List ℕ) → rowRead d p bytes ≡ (
 unfolding rowRead
 row-begins d p bytes = refl
 
--- ---- place after place
+-- ---- item after item
 
--- rows that are done, ahead of those that are read next
-abbrev behind : List Requestor → Read (List Requestor) → Read (List Requestor)
-behind done rows = next rows λ more rest. read (done ++ more) rest
+-- items that are done, ahead of those that are read next
+abbrev behind : {X : Type 0} → List X → Read (List X) → Read (List X)
+behind done items = next items λ more rest. read (done ++ more) rest
 
--- the first p places of n are read and stand in the table, and what is left of the bytes comes to the same as all of them
-pub record Sofar (limit d n : ℕ) (bytes : List ℕ) (t : Table) (p : ℕ) (left : List ℕ) : Type 0 where
-  pub done : List Requestor
+-- the first p items of n are read, and what is left of the bytes comes to the same as all of them
+pub record Done {X : Type 0} (item : (place : ℕ) → List ℕ → Read X) (n : ℕ) (bytes : List ℕ) (done : List X) (p : ℕ) (left : List ℕ) : Type 0 where
   pub count : length done ≡ p
   pub within : p ≤ n
-  pub table : t ≡ tableOf limit d n done
-  pub same : rowsRead n d 0 bytes ≡ behind done (rowsRead (n - p) d p left)
+  pub same : itemsRead item n 0 bytes ≡ behind done (itemsRead item (n - p) p left)
 
-none-behind : (rows : Read (List Requestor)) → rows ≡ behind [] rows
+none-behind : {X : Type 0} (items : Read (List X)) → items ≡ behind [] items
 unfolding next
-none-behind (read rows rest) = refl
+none-behind (read items rest) = refl
 none-behind (stop why) = refl
 
--- one row more is done
-one-behind : (done : List Requestor) (r : Requestor) (rows : Read (List Requestor))
-    → behind done (next rows λ more rest. read (r ∷ more) rest) ≡ behind (done ++ (r ∷ [])) rows
+-- one item more is done
+one-behind : {X : Type 0} (done : List X) (x : X) (items : Read (List X))
+    → behind done (next items λ more rest. read (x ∷ more) rest) ≡ behind (done ++ (x ∷ [])) items
 unfolding next
-one-behind done r (read rows rest) = ap (λ l. read l rest) (sym (append-assoc done (r ∷ []) rows))
-one-behind done r (stop why) = refl
+one-behind done x (read items rest) = ap (λ l. read l rest) (sym (append-assoc done (x ∷ []) items))
+one-behind done x (stop why) = refl
 
-rows-next : (places d p : ℕ) (left : List ℕ) (r : Requestor) (rest : List ℕ) → rowRead d p left ≡ read r rest
-    → rowsRead (suc places) d p left ≡ next (rowsRead places d (suc p) rest) λ rows l. read (r ∷ rows) l
-unfolding rowsRead next
-rows-next places d p left r rest e = rw e
+module _ {X : Type 0} (item : (place : ℕ) → List ℕ → Read X) where
+  items-next : (items p : ℕ) (left : List ℕ) (x : X) (rest : List ℕ) → item p left ≡ read x rest
+      → itemsRead item (suc items) p left ≡ next (itemsRead item items (suc p) rest) λ xs l. read (x ∷ xs) l
+  unfolding itemsRead next
+  items-next items p left x rest e = rw e
 
-rows-stop : (places d p : ℕ) (left : List ℕ) (why : Refusal) → rowRead d p left ≡ stop why → rowsRead (suc places) d p left ≡ stop why
-unfolding rowsRead next
-rows-stop places d p left why e = rw e
+  items-stop : (items p : ℕ) (left : List ℕ) (why : Refusal) → item p left ≡ stop why → itemsRead item (suc items) p left ≡ stop why
+  unfolding itemsRead next
+  items-stop items p left why e = rw e
 
-pub sofar-none : (limit d n : ℕ) (bytes : List ℕ) (t : Table) → t ≡ tableOf limit d n [] → Sofar limit d n bytes t 0 bytes
-sofar-none limit d n bytes t e =
-    let all : n - 0 ≡ n = omega arith in
-    record { done = []; count = refl; within = omega arith; table = e; same = rw all (none-behind (rowsRead n d 0 bytes)) }
+  pub done-none : (n : ℕ) (bytes : List ℕ) → Done item n bytes [] 0 bytes
+  done-none n bytes =
+      let all : n - 0 ≡ n = omega arith in
+      record { count = refl; within = omega arith; same = rw all (none-behind (itemsRead item n 0 bytes)) }
 
--- the table with one row more
-placed : (limit d n p : ℕ) (done : List Requestor) (r : Requestor) → length done ≡ p → p < limit
-    → set (tableOf limit d n done .requestors) p r ≡ tableOf limit d n (done ++ (r ∷ [])) .requestors
-unfolding tableOf
-placed limit d n p done r e h = stored-behind done (replicate limit noRequestor) (r ∷ []) p e (simp length-replicate (omega arith))
-
-module _ {limit d n : ℕ} {bytes : List ℕ} {t : Table} {p : ℕ} {left : List ℕ} (s : Sofar limit d n bytes t p left) where
-  -- one place more
-  pub sofar-next : (r : Requestor) (taken : ℕ) → p < n → p < limit → rowRead d p left ≡ read r (drop taken left)
-      → Sofar limit d n bytes (record { denominator = t .denominator; count = t .count; requestors = set (t .requestors) p r }) (p + 1) (take (length left - taken) (drop taken left))
-  unfolding tableOf
-  sofar-next r taken h inside e =
+module _ {X : Type 0} {item : (place : ℕ) → List ℕ → Read X} {n : ℕ} {bytes : List ℕ} {done : List X} {p : ℕ} {left : List ℕ} (s : Done item n bytes done p left) where
+  -- one item more
+  pub done-next : (x : X) (taken : ℕ) → p < n → item p left ≡ read x (drop taken left)
+      → Done item n bytes (done ++ (x ∷ [])) (p + 1) (take (length left - taken) (drop taken left))
+  done-next x taken h e =
       let fewer : n - p ≡ suc (n - (p + 1)) = omega arith in
-      let rows = rows-next (n - (p + 1)) d p left r (drop taken left) e in
       record {
-        done = s .done ++ (r ∷ []);
         count = simp length-append (omega (arith, s .count));
         within = omega arith;
-        table = rw (s .table) (ap (λ l. record { denominator = d; count = n; requestors = l }) (placed limit d n p (s .done) r (s .count) inside));
         same =
-            s .same ∙ rw fewer (ap (behind (s .done)) rows)
-            ∙ one-behind (s .done) r (rowsRead (n - (p + 1)) d (suc p) (drop taken left))
+            s .same ∙ rw fewer (ap (behind done) (items-next item (n - (p + 1)) p left x (drop taken left) e))
+            ∙ one-behind done x (itemsRead item (n - (p + 1)) (suc p) (drop taken left))
             ∙ rw (part-to-end left taken, ← add-one p);
       }
 
-  pub sofar-stop : (why : Refusal) → p < n → rowRead d p left ≡ stop why → rowsRead n d 0 bytes ≡ stop why
+  pub done-stop : (why : Refusal) → p < n → item p left ≡ stop why → itemsRead item n 0 bytes ≡ stop why
   unfolding next
-  sofar-stop why h e =
+  done-stop why h e =
       let fewer : n - p ≡ suc (n - (p + 1)) = omega arith in
-      s .same ∙ rw (fewer, rows-stop (n - (p + 1)) d p left why e)
+      s .same ∙ rw (fewer, items-stop item (n - (p + 1)) p left why e)
 
-  pub sofar-end : n ≤ p → rowsRead n d 0 bytes ≡ read (s .done) left
-  unfolding rowsRead next
-  sofar-end h =
+  pub done-end : n ≤ p → itemsRead item n 0 bytes ≡ read done left
+  unfolding itemsRead next
+  done-end h =
       let none : n - p ≡ 0 = omega arith in
-      s .same ∙ rw none (ap (λ l. read l left) (append-nil (s .done)))
+      s .same ∙ rw none (ap (λ l. read l left) (append-nil done))
+
+-- ---- place after place
+
+-- the first p places of n are read and stand in the table
+pub record Sofar (limit d n : ℕ) (bytes : List ℕ) (t : Table) (p : ℕ) (left : List ℕ) : Type 0 where
+  pub rows : List Requestor
+  pub done : Done (rowRead d) n bytes rows p left
+  pub table : t ≡ tableOf limit d n rows
+
+pub sofar-none : (limit d n : ℕ) (bytes : List ℕ) (t : Table) → t ≡ tableOf limit d n [] → Sofar limit d n bytes t 0 bytes
+sofar-none limit d n bytes t e = record { rows = []; done = done-none (rowRead d) n bytes; table = e }
+
+-- the table with one row more
+placed : (limit d n p : ℕ) (rows : List Requestor) (r : Requestor) → length rows ≡ p → p < limit
+    → set (tableOf limit d n rows .requestors) p r ≡ tableOf limit d n (rows ++ (r ∷ [])) .requestors
+unfolding tableOf
+placed limit d n p rows r e h = stored-behind rows (replicate limit noRequestor) (r ∷ []) p e (simp length-replicate (omega arith))
+
+-- one place more
+pub sofar-next : {limit d n : ℕ} {bytes : List ℕ} {t : Table} {p : ℕ} {left : List ℕ} → Sofar limit d n bytes t p left
+    → (r : Requestor) (taken : ℕ) → p < n → p < limit → rowRead d p left ≡ read r (drop taken left)
+    → Sofar limit d n bytes (record { denominator = t .denominator; count = t .count; requestors = set (t .requestors) p r }) (p + 1) (take (length left - taken) (drop taken left))
+unfolding tableOf
+sofar-next {limit} {d} {n} {bytes} {t} {p} {left} s r taken h inside e = record {
+  rows = s .rows ++ (r ∷ []);
+  done = done-next (s .done) r taken h e;
+  table = rw (s .table) (ap (λ l. record { denominator = d; count = n; requestors = l }) (placed limit d n p (s .rows) r (s .done .count) inside));
+}
 
 -- ---- D and N
 

@@ -24,7 +24,7 @@ use Rattle.arbiter.specs.Answers as answers
 use Rattle.arbiter.specs.Table.{noRequestor, requestorClear, requestorsOf, tableOf, Bounds, denominatorBounds, countBounds, rateBounds, burstBounds, needBounds, withinBounds, heldTo, rowVerdict, eachPlace, tailVerdict, rateSumVerdict, tableVerdict}
 use Rattle.arbiter.specs.Figures.{finishesVerdict, admissionVerdict}
 use Rattle.arbiter.proofs.Checks.{gate-open, then-open, held-open}
-use Rattle.table_bytes.specs.Reading.{Read, read, stop, next, fieldRead, rowRead, rowsRead, placesRead, numbersRead, lastVerdict, TableRead, accept, refuse, settled, readTable}
+use Rattle.table_bytes.specs.Reading.{Read, read, stop, next, fieldRead, itemsRead, rowRead, rowsRead, placesRead, numbersRead, lastVerdict, TableRead, accept, refuse, settled, readTable}
 use Rattle.table_bytes.specs.Writing.{rowNumbers, tableNumbers, tableBytes, writeVerdict, wrote, refused, TableWritten, writeTable}
 use Rattle.table_bytes.proofs.Accepted.{Spent, spent-more, field-open, field-spent, next-open, read-same, rows-open, table-rows, table-admission}
 use Rattle.table_bytes.specs.RoundTrip.{Bytes-read-back, Written-reads-back, Read-writes-back}
@@ -61,7 +61,7 @@ row-reads d p r rest small ok =
 
 rows-reads : (d p : ℕ) (rows : List Requestor) (rest : List ℕ) → d ≤ maxNumber → eachPlace (rowVerdict d) p rows ≡ faultless
     → rowsRead (length rows) d p (joined numberBytes (joined rowNumbers rows) ++ rest) ≡ read rows rest
-unfolding rowsRead next joined eachPlace
+unfolding itemsRead next joined eachPlace
 rows-reads d p [] rest small ok = refl
 rows-reads d p (r ∷ rows) rest small ok =
     let checked = then-open _ _ ok in

@@ -55,13 +55,17 @@ rowRead d p bytes =
     next (fieldRead (withinBounds p) rest) λ l rest.
     read (record { rate = n; burst = b; need = record { 0 = j }; within = record { 0 = l } }) rest
 
--- so many places, from place p on
-unfoldable pub rowsRead : (places d p : ℕ) → List ℕ → Read (List Requestor)
-rowsRead zero d p bytes = read [] bytes
-rowsRead (suc places) d p bytes =
-    next (rowRead d p bytes) λ r rest.
-    next (rowsRead places d (suc p) rest) λ rows rest.
-    read (r ∷ rows) rest
+-- so many items one after the other, from place p on, each read from the bytes that the one before it left
+unfoldable pub itemsRead : {X : Type 0} → (item : (place : ℕ) → List ℕ → Read X) → (items p : ℕ) → List ℕ → Read (List X)
+itemsRead item zero p bytes = read [] bytes
+itemsRead item (suc items) p bytes =
+    next (item p bytes) λ x rest.
+    next (itemsRead item items (suc p) rest) λ xs rest.
+    read (x ∷ xs) rest
+
+-- the rows of so many places
+abbrev pub rowsRead : (places d p : ℕ) → List ℕ → Read (List Requestor)
+rowsRead places d p bytes = itemsRead (rowRead d) places p bytes
 
 -- the places of a table, whose D and N have been read; `limit` is the largest N
 unfoldable pub placesRead : (limit d n : ℕ) → List ℕ → Read Table

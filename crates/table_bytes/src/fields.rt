@@ -1,4 +1,4 @@
-// One number of a table, read and held to its bounds.
+// A number at the start of some bytes, and one that is held to its bounds.
 use arbiter::bounds::Bounds;
 use arbiter::refusals::Cause;
 use arbiter::refusals::InputRefusal;
@@ -9,17 +9,33 @@ ghost use mathlib.Core.Path.{_≡_};
 ghost use Prim.Native.Nat.{_≤_};
 ghost use lib.ListN.{length};
 ghost use Rattle.arbiter.specs.Table.{boundsOf};
-ghost use Rattle.table_bytes.specs.Reading.{fieldRead, fieldOf, takenByField};
+ghost use Rattle.table_bytes.specs.Reading.{numberRead, fieldRead, fieldOf, takenByField};
 
 // A number, and how many bytes it takes.
-pub(crate) struct Number {
+pub struct Number {
     pub value: u32,
     pub taken: usize,
 }
 
-pub(crate) enum Field {
+pub enum Field {
     Value(Number),
     Refused(Cause),
+}
+
+// The number at the start of the bytes. Refused: 8, 9.
+pub fn read_value(bytes: &[u8]) -> Field
+    ensures { λ f. ⌜ fieldOf (now (bytes .entry)) f ≡ numberRead (now (bytes .entry)) ⌝ }
+    ensures there { λ f. ⌜ takenByField f ≤ length (now (bytes .entry)) ⌝ }
+{
+    let reading = read_number(bytes);
+    match reading {
+        Reading::Number(x, taken) => Field::Value(Number {
+            value: x,
+            taken: taken,
+        }),
+        Reading::Ended => Field::Refused(Cause::Input(InputRefusal::BytesEnd)),
+        Reading::Malformed => Field::Refused(Cause::Input(InputRefusal::NumberForm)),
+    }
 }
 
 // The number at the start of the bytes is read (8, 9) and checked.
@@ -27,19 +43,15 @@ pub(crate) fn read_field(bytes: &[u8], bounds: Bounds) -> Field
     ensures { λ f. ⌜ fieldOf (now (bytes .entry)) f ≡ fieldRead (boundsOf bounds) (now (bytes .entry)) ⌝ }
     ensures there { λ f. ⌜ takenByField f ≤ length (now (bytes .entry)) ⌝ }
 {
-    let reading = read_number(bytes);
-    match reading {
-        Reading::Number(x, taken) => {
-            let verdict = bounds.hold(x as u64);
+    let found = read_value(bytes);
+    match found {
+        Field::Refused(c) => Field::Refused(c),
+        Field::Value(x) => {
+            let verdict = bounds.hold(x.value as u64);
             match verdict {
-                Verdict::Faultless => Field::Value(Number {
-                    value: x,
-                    taken: taken,
-                }),
+                Verdict::Faultless => Field::Value(x),
                 Verdict::Fault(c) => Field::Refused(c),
             }
         }
-        Reading::Ended => Field::Refused(Cause::Input(InputRefusal::BytesEnd)),
-        Reading::Malformed => Field::Refused(Cause::Input(InputRefusal::NumberForm)),
     }
 }

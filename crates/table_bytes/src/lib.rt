@@ -1,6 +1,6 @@
 // A table's bytes: a reader and a writer. The arbiter knows nothing of them.
 
-mod fields;
+pub mod fields;
 mod numbers;
 pub mod reader;
 mod rows;

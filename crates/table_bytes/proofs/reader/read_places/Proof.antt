@@ -8,7 +8,7 @@ use Rattle.arbiter.specs.Limits.{maxPlaces}
 use Rattle.arbiter.specs.Table.{countBounds}
 use Rattle.arbiter.proofs.Checks.{held-open}
 use Rattle.table_bytes.specs.Reading.{rowOf}
-use Rattle.table_bytes.proofs.Readings.{Sofar, sofar-none, sofar-next, sofar-stop, sofar-end}
+use Rattle.table_bytes.proofs.Readings.{Sofar, sofar-none, sofar-next, done-stop, done-end}
 use Rattle.table_bytes.proofs.Accepted.{settled-stop, settled-read}
 use Rattle.table_bytes.proofs.reader.read_places.Statement.{statement}
 use Rattle.table_bytes.proofs.reader.read_places.Tie as tie
@@ -59,7 +59,7 @@ refuse-requires c κs = search needs
 returns : tie.Need-returns Inv-loop μ-loop
 returns c =
     let row = sym (c .before .before .before .before .read-row .ensures .0) ∙ ap (rowOf _) (c .before .before .c .given .1) in
-    c .refuse .ensures ∙ settled-stop _ _ _ _ _ (sofar-stop (c .before .before .before .before .before .before .loop .inv) _ (c .before .before .before .before .before .loop-test .taken) row)
+    c .refuse .ensures ∙ settled-stop _ _ _ _ _ (done-stop (c .before .before .before .before .before .before .loop .inv .done) _ (c .before .before .before .before .before .loop-test .taken) row)
 
 add-p : tie.Need-add-p Inv-loop μ-loop
 add-p c = omega arith
@@ -79,7 +79,7 @@ returns-2 : tie.Need-returns-2 Inv-loop μ-loop
 returns-2 c =
     let so-far = c .before .before .loop .inv in
     let checked = c .before .before .before .before .before .pre in
-    c .settle .ensures ∙ settled-read _ _ _ _ _ _ _ (checked .0) (checked .1) (sofar-end so-far (c .before .loop-test .left)) (so-far .table)
+    c .settle .ensures ∙ settled-read _ _ _ _ _ _ _ (checked .0) (checked .1) (done-end (so-far .done) (c .before .loop-test .left)) (so-far .table)
 
 pub read-places-spec : {M : Type 1} → statement M
 read-places-spec =

@@ -1,0 +1,62 @@
+-- `bench_test::comparing::same_rows` is safe and ends, after the sixteenth place. Assumes nothing.
+use Prim.Native.Nat.{_≤_, _-_}
+use borrow.Author.Needs.{needs}
+use Rattle.bench_test.proofs.comparing.same_rows.Statement.{statement}
+use Rattle.bench_test.proofs.comparing.same_rows.Tie as tie
+
+abbrev Inv-loop : tie.InvT-loop
+Inv-loop a b p₀ p = p ≤ 16
+
+abbrev μ-loop : tie.MeasureT-loop
+μ-loop a b p₀ p = 16 - p
+
+loop-holds : tie.Need-loop-holds Inv-loop μ-loop
+loop-holds c = search needs
+
+mul-x : tie.Need-mul-x Inv-loop μ-loop
+mul-x c = search needs
+
+element-copy-out-x : tie.Need-element-copy-out-x Inv-loop μ-loop
+element-copy-out-x c = search needs
+
+mul-y : tie.Need-mul-y Inv-loop μ-loop
+mul-y c = search needs
+
+element-copy-out-y : tie.Need-element-copy-out-y Inv-loop μ-loop
+element-copy-out-y c = search needs
+
+same-row-requires : tie.Need-same-row-requires Inv-loop μ-loop
+same-row-requires c κs = search needs
+
+returns : tie.Need-returns Inv-loop μ-loop
+returns c = search needs
+
+add-p : tie.Need-add-p Inv-loop μ-loop
+add-p c = search needs
+
+loop-less : tie.Need-loop-less Inv-loop μ-loop
+loop-less c = search needs
+
+loop-again : tie.Need-loop-again Inv-loop μ-loop
+loop-again c = search needs
+
+returns-2 : tie.Need-returns-2 Inv-loop μ-loop
+returns-2 c = search needs
+
+pub same-rows-spec : {M : Type 1} → statement M
+same-rows-spec =
+    tie.close
+    (tie.spec
+    Inv-loop
+    μ-loop
+    loop-holds
+    mul-x
+    element-copy-out-x
+    mul-y
+    element-copy-out-y
+    same-row-requires
+    returns
+    add-p
+    loop-less
+    loop-again
+    returns-2)

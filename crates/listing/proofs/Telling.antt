@@ -1,0 +1,183 @@
+-- A step's text in the lent buffer: it fits where the longest line does, it stands at the buffer's start, and it is the step's. Assumes
+-- nothing.
+use mathlib.Core.Path.{_≡_, refl, ap, sym, _∙_}
+use mathlib.Core.Bool.{true, false}
+use mathlib.Core.List.{List, [], _∷_, _++_}
+use Prim.Native.Nat.{ℕ, suc, _+_, _*_, _≤_, _<_}
+use native.Mathlib.Omega.{arith}
+use borrow.Author.Tests.{le-leb, lt-leb, eq-eqb, ne-eqb}
+use lib.ListN.{length, take, drop, length-append, length-take}
+use lib.Seq.{take-at}
+use Rattle.lists.specs.Sums.{joined}
+use Rattle.lists.specs.Overwriting.{writtenOver}
+use Rattle.lists.specs.Runs.{Result}
+use Rattle.lists.proofs.Sums.{total-most, length-joined}
+use Rattle.arbiter.specs.declared.refusals.Refusal.{Refusal}
+use Rattle.arbiter.specs.declared.state.Arbiter.{Arbiter}
+use Rattle.arbiter.specs.Limits.{maxPlaces}
+use Rattle.arbiter.specs.Refusals.{Verdict, faultless, fault, refusal, gate}
+use Rattle.arbiter.specs.Answers.{Answer, accepted, granted, idle, refused}
+use Rattle.arbiter.specs.State.{sound, noAccount, accountAt}
+use Rattle.arbiter.specs.Start.{noState}
+use Rattle.arbiter.proofs.Checks.{fair}
+use Rattle.arbiter.proofs.Sound.{sound-table}
+use Rattle.table_bytes.specs.Reading.{Read, read, stop}
+use Rattle.calls.specs.declared.slot.Grant.{Grant}
+use Rattle.calls.specs.declared.slot.Grant.the-variants.{Nobody, Place}
+use Rattle.calls.specs.Calls.{Call, post, slot, done, called, outcome, ruleVerdict, filled, advanced, grantOf}
+use Rattle.listing.specs.Text.{maxEarlier, decimal, spaced, line}
+use Rattle.listing.specs.Lines.{header, endLine, refusedLine, placeItem, creditItems, slotLine}
+use Rattle.listing.specs.Listing.{Step, more, last, unless, countsRead, posted, played, slotTold, slotStep, step, begun, headed, firstStep}
+use Rattle.listing.specs.Room.{itemRoom, lineRoom, Outcome, told, noRoom, textOf, written, inBuffer}
+use Rattle.listing.proofs.Digits.{decimal-few}
+use Rattle.listing.proofs.Writing.{spacedCredit, creditsTo, credits-all, item-length, two-length, slot-length}
+
+-- ---- every text fits
+
+-- an item with its space
+item-few : (n : ℕ) → length (spaced (decimal n)) ≤ itemRoom
+item-few n = omega (arith, item-length (decimal n), decimal-few n)
+
+refused-few : (r : Refusal) → length (refusedLine r) ≤ 8 + itemRoom
+unfolding refusedLine
+refused-few r = omega (arith, two-length (114 ∷ 101 ∷ 102 ∷ 117 ∷ 115 ∷ 101 ∷ 100 ∷ []) (decimal (r .number)), item-few (r .number))
+
+end-few : (slots : ℕ) → length (endLine slots) ≤ 4 + itemRoom
+unfolding endLine
+end-few slots = omega (arith, two-length (101 ∷ 110 ∷ 100 ∷ []) (decimal slots), item-few slots)
+
+header-length : length header ≡ 19
+unfolding header line joined spaced
+header-length = refl
+
+place-few : (g : Grant) → length (spaced (placeItem g)) ≤ itemRoom
+place-few Nobody = omega (arith, item-length (45 ∷ []))
+place-few (Place p) = item-few p
+
+credits-few : (s : Arbiter) → s .table .count ≤ maxPlaces → length (joined spaced (creditItems s)) ≤ maxPlaces * itemRoom
+credits-few s h =
+    let n = s .table .count in
+    let accounts = take n (s .accounts) in
+    let few = total-most (λ a. length (spacedCredit a)) noAccount itemRoom accounts (λ i l. item-few (accountAt i accounts .credit)) in
+    let count : length accounts ≤ n = simp length-take (omega arith) in
+    omega (arith, ap length (credits-all s), length-joined spacedCredit accounts, few, count)
+
+slot-few : (stamp : ℕ) (g : Grant) (after : Arbiter) → after .table .count ≤ maxPlaces → length (slotLine stamp g after) ≤ lineRoom
+slot-few stamp g after h = omega (arith, slot-length stamp g after, decimal-few stamp, place-few g, credits-few after h)
+
+-- in a buffer that has room for the longest line
+module _ {room : ℕ} (h : lineRoom ≤ room) where
+  pub refused-fits : (r : Refusal) → length (refusedLine r) ≤ room
+  refused-fits r = omega (arith, refused-few r)
+
+  pub end-fits : (slots : ℕ) → length (endLine slots) ≤ room
+  end-fits slots = omega (arith, end-few slots)
+
+  pub slot-fits : (stamp : ℕ) (g : Grant) (after : Arbiter) → after .table .count ≤ maxPlaces → length (slotLine stamp g after) ≤ room
+  slot-fits stamp g after few = omega (arith, slot-few stamp g after few)
+
+  -- also behind the header
+  pub header-fits : (r : Refusal) → length header + length (refusedLine r) ≤ room
+  header-fits r = omega (arith, header-length, refused-few r)
+
+-- ---- a text at the start of the buffer is the step's
+
+-- whatever step it is the text of
+pub told-text : (shape : List ℕ → Step) (text old : List ℕ) {buffer : List ℕ} {k : ℕ} → (k ≡ length text) × (buffer ≡ writtenOver text old)
+    → told (shape (take k buffer)) buffer ≡ told (shape text) (writtenOver text old)
+unfolding writtenOver
+told-text shape text old {buffer} {k} e =
+    let front : take k buffer ≡ text = rw (e .1) (take-at text (drop (length text) old) k (sym (e .0))) in
+    rw (front, e .1)
+
+-- it ends inside the buffer
+pub wrote-inside : (text : List ℕ) {k room : ℕ} → k ≡ length text → length text ≤ room → k ≤ room
+wrote-inside text e h = omega arith
+
+-- ---- a slot
+
+-- a call keeps the table
+called-table : (limit : ℕ) (s : Arbiter) (c : Call) → called limit s c .state .table ≡ s .table
+unfolding called done filled advanced
+called-table limit s c = by-verdict (gate (refusal 23) (sound limit s) (ruleVerdict s c)) c where
+  by-verdict : (v : Verdict) (c : Call) → outcome v s c .state .table ≡ s .table
+  by-verdict faultless (post p count) = refl
+  by-verdict faultless slot = refl
+  by-verdict (fault r) c = refl
+
+posted-table : (limit : ℕ) (s : Arbiter) (p : ℕ) (counts : List ℕ) → posted limit s p counts .state .table ≡ s .table
+unfolding posted
+posted-table limit s p [] = refl
+posted-table limit s p (count ∷ counts) =
+    by-answer (called limit s (post p count)) (posted limit (called limit s (post p count) .state) (suc p) counts) (called limit s (post p count) .answer)
+    (called-table limit s (post p count)) (posted-table limit (called limit s (post p count) .state) (suc p) counts ∙ called-table limit s (post p count)) where
+      by-answer : (one others : Result Arbiter Answer) (a : Answer) → one .state .table ≡ s .table → others .state .table ≡ s .table
+          → unless a (λ why. one) others .state .table ≡ s .table
+      by-answer one others accepted e f = f
+      by-answer one others (granted stamp place) e f = f
+      by-answer one others (idle stamp) e f = f
+      by-answer one others (refused why) e f = e
+
+played-table : (limit : ℕ) (s : Arbiter) (counts : List ℕ) → played limit s counts .state .table ≡ s .table
+unfolding played
+played-table limit s counts = by-answer (posted limit s 0 counts) (posted limit s 0 counts .answer) (posted-table limit s 0 counts) where
+  by-answer : (filled : Result Arbiter Answer) (a : Answer) → filled .state .table ≡ s .table
+      → unless a (λ why. filled) (called limit (filled .state) slot) .state .table ≡ s .table
+  by-answer filled accepted e = called-table limit (filled .state) slot ∙ e
+  by-answer filled (granted stamp place) e = called-table limit (filled .state) slot ∙ e
+  by-answer filled (idle stamp) e = called-table limit (filled .state) slot ∙ e
+  by-answer filled (refused why) e = e
+
+-- N of a sound state
+pub sound-few : (s : Arbiter) → sound maxPlaces s ≡ true → s .table .count ≤ maxPlaces
+sound-few s e = fair maxPlaces (s .table) (sound-table maxPlaces s e) .count-most
+
+-- N of the state after its slot
+pub played-few : (s : Arbiter) (counts : List ℕ) (done : Result Arbiter Answer) → sound maxPlaces s ≡ true → done ≡ played maxPlaces s counts → done .state .table .count ≤ maxPlaces
+played-few s counts done e d =
+    let same : done .state .table .count ≡ s .table .count = ap (λ (r : Result Arbiter Answer). r .state .table .count) d ∙ ap (λ t. t .count) (played-table maxPlaces s counts) in
+    omega (arith, same, sound-few s e)
+
+module _ (limit : ℕ) (s : Arbiter) (bytes : List ℕ) where
+  -- the counts are refused
+  pub slot-stopped : (why : Refusal) → stop why ≡ countsRead (s .table .count) bytes → last (refusedLine why) s ≡ slotStep limit s (countsRead (s .table .count) bytes)
+  unfolding slotStep
+  slot-stopped why e = rw (← e)
+
+  -- they are played
+  pub slot-played : (counts rest : List ℕ) (done : Result Arbiter Answer) → read counts rest ≡ countsRead (s .table .count) bytes → done ≡ played limit s counts
+      → slotTold s (done .answer) (done .state) rest ≡ slotStep limit s (countsRead (s .table .count) bytes)
+  unfolding slotStep
+  slot-played counts rest done e d = rw (← e, ← d)
+
+-- ---- a step
+
+-- no room: nothing is done
+pub without-room : (t : Step) (given : Arbiter) (old : List ℕ) → length old < lineRoom → noRoom given old ≡ inBuffer t given old
+without-room t given old h = rw (lt-leb lineRoom (length old) h)
+
+-- room: the step's text is written
+pub with-room : (given : Arbiter) {t named : Step} (old : List ℕ) → lineRoom ≤ length old → t ≡ named → written t old ≡ inBuffer named given old
+with-room given {t} {named} old h e = rw (le-leb lineRoom (length old) h, e)
+
+module _ (limit : ℕ) (s : Arbiter) (rest : List ℕ) where
+  pub step-unsound : sound limit s ≡ false → last (refusedLine (refusal 23)) s ≡ step limit s rest
+  unfolding step
+  step-unsound e = rw e
+
+  pub step-end : sound limit s ≡ true → length rest ≡ 0 → last (endLine (s .slot .0)) s ≡ step limit s rest
+  unfolding step
+  step-end e none = rw (e, eq-eqb (length rest) 0 none)
+
+  pub step-slot : sound limit s ≡ true → (length rest ≡ 0 → ⊥) → slotStep limit s (countsRead (s .table .count) rest) ≡ step limit s rest
+  unfolding step
+  step-slot e some = rw (e, ne-eqb (length rest) 0 some)
+
+module _ (limit : ℕ) (input : List ℕ) where
+  pub first-begins : (s : Arbiter) (rest : List ℕ) → read s rest ≡ begun limit input → more header s rest ≡ firstStep limit input
+  unfolding firstStep headed
+  first-begins s rest e = rw (← e)
+
+  pub first-refused : (why : Refusal) → stop why ≡ begun limit input → last (header ++ refusedLine why) (noState limit) ≡ firstStep limit input
+  unfolding firstStep headed
+  first-refused why e = rw (← e)

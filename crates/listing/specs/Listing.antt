@@ -1,0 +1,115 @@
+-- Document 01, the program slotlist: "reads standard input: the table's length in bytes as one number in groups, the table bytes, then for
+-- each slot N post counts in groups. It starts at slot 0." What it is to print is `listing` of its input bytes. It is told in steps: each
+-- has a text, and is the last one or hands on a state and the rest of the input. A step is the program's telling of its calls and no call
+-- itself: a refusal is a line here. `limit` is the largest N throughout.
+use mathlib.Core.List.{List, [], _∷_, _++_}
+use Prim.Native.Nat.{ℕ, zero, suc}
+use lib.Dec.{leb, eqb}
+use lib.ListN.{length, take, drop}
+use Rattle.lists.specs.Choices.{pick}
+use Rattle.lists.specs.Runs.{Result}
+use Rattle.arbiter.specs.declared.refusals.Refusal.{Refusal}
+use Rattle.arbiter.specs.declared.state.Arbiter.{Arbiter}
+use Rattle.arbiter.specs.declared.table.Table.{Table}
+use Rattle.arbiter.specs.Refusals.{refusal, resolve}
+use Rattle.arbiter.specs.Answers.{Answer, accepted, granted, idle, refused}
+use Rattle.arbiter.specs.State.{sound}
+use Rattle.arbiter.specs.Start.{noState, start}
+use Rattle.arbiter.specs.Input.{inputVerdict}
+use Rattle.table_bytes.specs.Reading.{Read, read, stop, next, numberRead, itemsRead, TableRead, readTable}
+use Rattle.calls.specs.declared.slot.Grant.the-variants.{Nobody, Place}
+use Rattle.calls.specs.Calls.{Call, post, slot, called}
+use Rattle.listing.specs.Lines.{header, endLine, refusedLine, slotLine}
+
+pub data Step : Type 0 where
+  -- print the text, and go on from this state with the rest of the input
+  more : (text : List ℕ) → Arbiter → (rest : List ℕ) → Step
+  -- print the text, and stop with this state
+  last : (text : List ℕ) → Arbiter → Step
+
+-- a refusal turns down what would go on after any other answer
+abbrev pub unless : {X : Type 0} → Answer → (Refusal → X) → X → X
+unless accepted turned-down goes-on = goes-on
+unless (granted stamp p) turned-down goes-on = goes-on
+unless (idle stamp) turned-down goes-on = goes-on
+unless (refused why) turned-down goes-on = turned-down why
+
+-- ---- a slot
+
+-- "All N counts of a slot are read before the first is posted."
+abbrev pub countsRead : (n : ℕ) → List ℕ → Read (List ℕ)
+countsRead n bytes = itemsRead (λ p rest. numberRead rest) n 0 bytes
+
+-- the counts are posted from place p on, until one is refused
+unfoldable pub posted : ℕ → Arbiter → (p : ℕ) → (counts : List ℕ) → Result Arbiter Answer
+posted limit s p [] = record { state = s; answer = accepted }
+posted limit s p (count ∷ counts) =
+    let one = called limit s (post p count) in
+    unless (one .answer) (λ why. one) (posted limit (one .state) (suc p) counts)
+
+-- and then the slot
+unfoldable pub played : ℕ → Arbiter → (counts : List ℕ) → Result Arbiter Answer
+played limit s counts =
+    let filled = posted limit s 0 counts in
+    unless (filled .answer) (λ why. filled) (called limit (filled .state) slot)
+
+-- A slot's line, and the state after the slot. A refusal stops; no line stands for its slot, and the state is the one before the slot's
+-- counts. A slot is never just accepted.
+unfoldable pub slotTold : (before : Arbiter) → Answer → (after : Arbiter) → (rest : List ℕ) → Step
+slotTold before (granted stamp p) after rest = more (slotLine stamp (Place p) after) after rest
+slotTold before (idle stamp) after rest = more (slotLine stamp Nobody after) after rest
+slotTold before (refused why) after rest = last (refusedLine why) before
+slotTold before accepted after rest = last [] before
+
+unfoldable pub slotStep : ℕ → Arbiter → Read (List ℕ) → Step
+slotStep limit s (read counts rest) = let done = played limit s counts in slotTold s (done .answer) (done .state) rest
+slotStep limit s (stop why) = last (refusedLine why) s
+
+-- One slot from the rest of the input. "Input that ends between two slots is a clean end", also before the first. It starts at slot 0, so
+-- the slot number is the number of slots. A state that breaks a rule, which no accepted start makes and no step goes on with, is refused
+-- 23 before all else; the paper leaves that free.
+unfoldable pub step : ℕ → Arbiter → (rest : List ℕ) → Step
+step limit s rest =
+    pick (sound limit s)
+    (pick (eqb (length rest) 0) (last (endLine (s .slot .0)) s) (slotStep limit s (countsRead (s .table .count) rest)))
+    (last (refusedLine (refusal 23)) s)
+
+-- ---- the beginning
+
+-- the table starts at slot 0, or is refused
+unfoldable pub startRead : ℕ → TableRead → (rest : List ℕ) → Read Arbiter
+startRead limit r rest =
+    unless (r .answer) stop
+    (let started = start limit (r .table) 0 in
+    unless (started .answer) stop (read (started .state) rest))
+
+-- the table's length, which may not pass the input (8), and so many bytes of table
+unfoldable pub stateRead : ℕ → (input : List ℕ) → Read Arbiter
+stateRead limit input =
+    next (numberRead input) λ size rest.
+    pick (leb size (length rest)) (startRead limit (readTable limit (take size rest)) (drop size rest)) (stop (refusal 8))
+
+-- "13 is tested first."
+unfoldable pub begun : ℕ → (input : List ℕ) → Read Arbiter
+begun limit input = resolve (inputVerdict (length input)) (stateRead limit input) stop
+
+-- "The header is always the first line, also before a refusal."
+unfoldable pub headed : ℕ → Read Arbiter → Step
+headed limit (read s rest) = more header s rest
+headed limit (stop why) = last (header ++ refusedLine why) (noState limit)
+
+unfoldable pub firstStep : ℕ → (input : List ℕ) → Step
+firstStep limit input = headed limit (begun limit input)
+
+-- ---- all of it
+
+-- a step's text and those of at most `follow` steps after it
+unfoldable pub texts : ℕ → (follow : ℕ) → Step → List ℕ
+texts limit zero (more text s rest) = text
+texts limit zero (last text s) = text
+texts limit (suc follow) (more text s rest) = text ++ texts limit follow (step limit s rest)
+texts limit (suc follow) (last text s) = text
+
+-- What slotlist prints. Each step but the last takes a byte of the input at least, so no more steps than bytes follow the first.
+unfoldable pub listing : ℕ → (input : List ℕ) → List ℕ
+listing limit input = texts limit (length input) (firstStep limit input)

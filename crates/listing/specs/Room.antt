@@ -1,0 +1,59 @@
+-- A step's text in a lent buffer. A buffer with so much room takes any step's text; with less, which the paper leaves free, the step does
+-- nothing and says so.
+use mathlib.Core.List.{List}
+use Prim.Native.Nat.{ℕ, _+_, _*_}
+use lib.Dec.{leb}
+use lib.ListN.{length, take, drop}
+use Rattle.lists.specs.Choices.{pick}
+use Rattle.lists.specs.Overwriting.{writtenOver}
+use Rattle.arbiter.specs.declared.state.Arbiter.{Arbiter}
+use Rattle.arbiter.specs.Limits.{maxPlaces}
+use Rattle.listing.specs.declared.steps.Told.{Told}
+use Rattle.listing.specs.declared.steps.Told.the-variants.{More, Last, NoRoom}
+use Rattle.listing.specs.declared.steps.StepResult.{StepResult}
+use Rattle.listing.specs.Text.{maxEarlier}
+use Rattle.listing.specs.Listing.{Step, more, last}
+
+-- an item: its digits, and the space or the line feed behind it
+abbrev pub itemRoom : ℕ
+itemRoom = 2 + maxEarlier
+
+-- room for any step's text: a line has at most a stamp, a place, and a credit to each place
+abbrev pub lineRoom : ℕ
+lineRoom = (2 + maxPlaces) * itemRoom
+
+abbrev pub textOf : Step → List ℕ
+textOf (more text s rest) = text
+textOf (last text s) = text
+
+-- what a step comes to, and the buffer afterwards
+pub data Outcome : Type 0 where
+  told : Step → (buffer : List ℕ) → Outcome
+  noRoom : Arbiter → (buffer : List ℕ) → Outcome
+
+-- the step's text is written at the buffer's start
+abbrev pub written : Step → (old : List ℕ) → Outcome
+written t old = told t (writtenOver (textOf t) old)
+
+abbrev pub inBuffer : Step → (given : Arbiter) → (old : List ℕ) → Outcome
+inBuffer t given old = pick (leb lineRoom (length old)) (written t old) (noRoom given old)
+
+-- the code's result and the lent buffer in these values; `bytes` is what the step was given of the input
+abbrev pub toldOf : List ℕ → Told → Arbiter → (buffer : List ℕ) → Outcome
+toldOf bytes (More wrote taken) s buffer = told (more (take wrote buffer) s (drop taken bytes)) buffer
+toldOf bytes (Last wrote) s buffer = told (last (take wrote buffer) s) buffer
+toldOf bytes NoRoom s buffer = noRoom s buffer
+
+abbrev pub outcomeOf : List ℕ → StepResult → (buffer : List ℕ) → Outcome
+outcomeOf bytes r buffer = toldOf bytes (r .told) (r .state) buffer
+
+-- how many bytes of the input a step took, and how many of the buffer it wrote
+abbrev pub takenBy : Told → ℕ
+takenBy (More wrote taken) = taken
+takenBy (Last wrote) = 0
+takenBy NoRoom = 0
+
+abbrev pub wroteBy : Told → ℕ
+wroteBy (More wrote taken) = wrote
+wroteBy (Last wrote) = wrote
+wroteBy NoRoom = 0

@@ -1,0 +1,157 @@
+// The steps of the program: each puts its text at the start of a lent buffer, and hands on the state and how much of the input it took.
+use crate::beginning::Beginning;
+use crate::beginning::begin;
+use crate::counts::Counted;
+use crate::counts::play;
+use crate::counts::read_counts;
+use crate::lines::put_end;
+use crate::lines::put_header;
+use crate::lines::put_refused;
+use crate::lines::put_slot;
+use arbiter::refusals::Cause;
+use arbiter::refusals::StateRefusal;
+use arbiter::start::no_state;
+use arbiter::state::Arbiter;
+use calls::slot::Grant;
+use calls::slot::SlotAnswer;
+use calls::slot::SlotResult;
+ghost use mathlib.Core.Path.{_≡_};
+ghost use mathlib.Core.Bool.{true};
+ghost use mathlib.Core.List.{List};
+ghost use Prim.Native.Nat.{ℕ, _≤_};
+ghost use lib.ListN.{length, drop};
+ghost use Rattle.arbiter.specs.Limits.{maxPlaces};
+ghost use Rattle.arbiter.specs.Refusals.{refusalOf};
+ghost use Rattle.arbiter.specs.State.{sound};
+ghost use Rattle.arbiter.specs.Start.{noState};
+ghost use Rattle.calls.specs.Calls.{slotAnswerOf};
+ghost use Rattle.listing.specs.Lines.{refusedLine};
+ghost use Rattle.listing.specs.Listing.{last, slotTold, slotStep, countsRead, step, firstStep};
+ghost use Rattle.listing.specs.Room.{lineRoom, inBuffer, written, outcomeOf, takenBy, wroteBy};
+
+// Room for any step's text: a line has at most a stamp, a place and a credit to each place, of 20 digits and a byte behind them.
+pub const LINE_ROOM: usize = (2 + Arbiter::MAX_PLACES) * 21;
+
+// How many bytes of the buffer a step wrote, and how many of the input it took. Without room it does nothing.
+pub enum Told {
+    More(usize, usize),
+    Last(usize),
+    NoRoom,
+}
+
+pub struct StepResult {
+    pub state: Arbiter,
+    pub told: Told,
+}
+
+// The refusal's line, and the state as it was.
+fn refuse(s: Arbiter, why: Cause, out: &mut [u8]) -> StepResult
+    requires { ⌜ lineRoom ≤ length (now out) ⌝ }
+    ensures { λ r. ⌜ ((bytes : List ℕ) → outcomeOf bytes r (now (out .exit)) ≡ written (last (refusedLine (refusalOf why)) s) (now (out .entry))) ⌝ }
+    ensures took { λ r. ⌜ takenBy (r .told) ≡ 0 ⌝ }
+    ensures wrote { λ r. ⌜ wroteBy (r .told) ≤ length (now (out .entry)) ⌝ }
+{
+    StepResult {
+        state: s,
+        told: Told::Last(put_refused(why, out)),
+    }
+}
+
+// What a slot came to, whose counts took so many bytes: its line, or the refusal's.
+fn tell(before: Arbiter, done: SlotResult, taken: usize, out: &mut [u8]) -> StepResult
+    requires { ⌜ (lineRoom ≤ length (now out)) × (done .state .table .count ≤ maxPlaces) ⌝ }
+    ensures { λ r. ⌜ ((bytes : List ℕ) → outcomeOf bytes r (now (out .exit)) ≡ written (slotTold before (slotAnswerOf (done .answer)) (done .state) (drop taken bytes)) (now (out .entry))) ⌝ }
+    ensures took { λ r. ⌜ takenBy (r .told) ≤ taken ⌝ }
+    ensures wrote { λ r. ⌜ wroteBy (r .told) ≤ length (now (out .entry)) ⌝ }
+{
+    let after = done.state;
+    let answer = done.answer;
+    match answer {
+        SlotAnswer::Granted(stamp, p) => StepResult {
+            state: after,
+            told: Told::More(put_slot(stamp, Grant::Place(p), after, out), taken),
+        },
+        SlotAnswer::Idle(stamp) => StepResult {
+            state: after,
+            told: Told::More(put_slot(stamp, Grant::Nobody, after, out), taken),
+        },
+        SlotAnswer::Refused(c) => refuse(before, c, out),
+    }
+}
+
+// A slot of a sound state: its counts are read, posted and played.
+fn play_slot(s: Arbiter, rest: &[u8], out: &mut [u8]) -> StepResult
+    requires { ⌜ (lineRoom ≤ length (now out)) × (sound maxPlaces s ≡ true) ⌝ }
+    ensures { λ r. ⌜ outcomeOf (now (rest .entry)) r (now (out .exit)) ≡ written (slotStep maxPlaces s (countsRead (s .table .count) (now (rest .entry)))) (now (out .entry)) ⌝ }
+    ensures took { λ r. ⌜ takenBy (r .told) ≤ length (now (rest .entry)) ⌝ }
+    ensures wrote { λ r. ⌜ wroteBy (r .told) ≤ length (now (out .entry)) ⌝ }
+{
+    let t = s.table;
+    let n = t.count;
+    let read = read_counts(rest, n);
+    let counts = read.counts;
+    let answer = read.answer;
+    match answer {
+        Counted::Refused(c) => refuse(s, c, out),
+        Counted::Taken(taken) => {
+            let done = play(s, &counts[..n]);
+            tell(s, done, taken, out)
+        }
+    }
+}
+
+// One slot from the rest of the input, or the end. Its line may be a refusal's: 23, 8, 9, 21, 22.
+pub fn step(s: Arbiter, rest: &[u8], out: &mut [u8]) -> StepResult
+    ensures { λ r. ⌜ outcomeOf (now (rest .entry)) r (now (out .exit)) ≡ inBuffer (step maxPlaces s (now (rest .entry))) s (now (out .entry)) ⌝ }
+    ensures took { λ r. ⌜ takenBy (r .told) ≤ length (now (rest .entry)) ⌝ }
+    ensures wrote { λ r. ⌜ wroteBy (r .told) ≤ length (now (out .entry)) ⌝ }
+{
+    if out.len() < LINE_ROOM {
+        return StepResult {
+            state: s,
+            told: Told::NoRoom,
+        };
+    }
+    if !s.is_sound() {
+        return refuse(s, Cause::State(StateRefusal::Unsound), out);
+    }
+    if rest.len() == 0 {
+        let slots = s.slot;
+        return StepResult {
+            state: s,
+            told: Told::Last(put_end(slots, out)),
+        };
+    }
+    play_slot(s, rest, out)
+}
+
+// The header, and behind it the refusal's line if the input begins with a fault: 13, 8, 9, and the table's 1 to 7 and 10.
+pub fn first_step(input: &[u8], out: &mut [u8]) -> StepResult
+    ensures { λ r. ⌜ outcomeOf (now (input .entry)) r (now (out .exit)) ≡ inBuffer (firstStep maxPlaces (now (input .entry))) (noState maxPlaces) (now (out .entry)) ⌝ }
+    ensures took { λ r. ⌜ takenBy (r .told) ≤ length (now (input .entry)) ⌝ }
+    ensures wrote { λ r. ⌜ wroteBy (r .told) ≤ length (now (out .entry)) ⌝ }
+{
+    if out.len() < LINE_ROOM {
+        return StepResult {
+            state: no_state(),
+            told: Told::NoRoom,
+        };
+    }
+    let begun = begin(input);
+    let state = begun.state;
+    let beginning = begun.beginning;
+    let at = put_header(out);
+    match beginning {
+        Beginning::Taken(taken) => StepResult {
+            state: state,
+            told: Told::More(at, taken),
+        },
+        Beginning::Refused(c) => {
+            let wrote = put_refused(c, &mut out[at..]);
+            StepResult {
+                state: no_state(),
+                told: Told::Last(at + wrote),
+            }
+        }
+    }
+}

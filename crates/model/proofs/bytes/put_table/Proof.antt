@@ -1,0 +1,50 @@
+-- `model::bytes::put_table` is safe and ends, after at most 66 turns. Assumes nothing.
+use Prim.Native.Nat.{_≤_, _-_}
+use borrow.Author.Needs.{needs}
+use Rattle.model.proofs.bytes.put_table.Statement.{statement}
+use Rattle.model.proofs.bytes.put_table.Tie as tie
+
+abbrev Inv-loop : tie.InvT-loop
+Inv-loop w bytes₀ long more next₀ k₀ bytes next k = k ≤ 66
+
+abbrev μ-loop : tie.MeasureT-loop
+μ-loop w bytes₀ long more next₀ k₀ bytes next k = 66 - k
+
+loop-holds : tie.Need-loop-holds Inv-loop μ-loop
+loop-holds c = search needs
+
+count-of-numbers-requires : tie.Need-count-of-numbers-requires Inv-loop μ-loop
+count-of-numbers-requires c κs = search needs
+
+number-of-table-requires : tie.Need-number-of-table-requires Inv-loop μ-loop
+number-of-table-requires c κs = search needs
+
+put-number-requires : tie.Need-put-number-requires Inv-loop μ-loop
+put-number-requires c κs = search needs
+
+add-k : tie.Need-add-k Inv-loop μ-loop
+add-k c = search needs
+
+loop-less : tie.Need-loop-less Inv-loop μ-loop
+loop-less c = search needs
+
+loop-again : tie.Need-loop-again Inv-loop μ-loop
+loop-again c = search needs
+
+returns : tie.Need-returns Inv-loop μ-loop
+returns c = search needs
+
+pub put-table-spec : {M : Type 1} → statement M
+put-table-spec =
+    tie.close
+    (tie.spec
+    Inv-loop
+    μ-loop
+    loop-holds
+    count-of-numbers-requires
+    number-of-table-requires
+    put-number-requires
+    add-k
+    loop-less
+    loop-again
+    returns)

@@ -1,0 +1,50 @@
+-- `model::logs::first_wrong` is safe and ends. Assumes nothing.
+use Prim.Native.Nat.{_≤_, _-_}
+use borrow.Author.Needs.{needs}
+use Rattle.model.proofs.logs.first_wrong.Statement.{statement}
+use Rattle.model.proofs.logs.first_wrong.Tie as tie
+
+abbrev Inv-loop : tie.InvT-loop
+Inv-loop w₀ log length refused old found₀ i₀ w found i = i ≤ length
+
+abbrev μ-loop : tie.MeasureT-loop
+μ-loop w₀ log length refused old found₀ i₀ w found i = length - i
+
+loop-holds : tie.Need-loop-holds Inv-loop μ-loop
+loop-holds c = search needs
+
+advance-requires : tie.Need-advance-requires Inv-loop μ-loop
+advance-requires c κs = search needs
+
+log-byte-requires : tie.Need-log-byte-requires Inv-loop μ-loop
+log-byte-requires c κs = search needs
+
+add-requires : tie.Need-add-requires Inv-loop μ-loop
+add-requires c κs = search needs
+
+add-i : tie.Need-add-i Inv-loop μ-loop
+add-i c = search needs
+
+loop-less : tie.Need-loop-less Inv-loop μ-loop
+loop-less c = search needs
+
+loop-again : tie.Need-loop-again Inv-loop μ-loop
+loop-again c = search needs
+
+returns : tie.Need-returns Inv-loop μ-loop
+returns c = search needs
+
+pub first-wrong-spec : {M : Type 1} → statement M
+first-wrong-spec =
+    tie.close
+    (tie.spec
+    Inv-loop
+    μ-loop
+    loop-holds
+    advance-requires
+    log-byte-requires
+    add-requires
+    add-i
+    loop-less
+    loop-again
+    returns)
