@@ -1,4 +1,4 @@
-// slot: 23, 22. A refused slot hands back the state that it got.
+// slot, and the form that is lent the state: 23, 22. A refused slot hands back the state that it got.
 use crate::comparing::same_state;
 use crate::printing::end;
 use crate::printing::fact;
@@ -11,15 +11,16 @@ use crate::states::t_with;
 use arbiter::refusals::Cause;
 use arbiter::state::Arbiter;
 use calls::slot::SlotAnswer;
+use calls::slot::SlotResult;
 use calls::slot::slot;
+use in_place::slot_of_a_loan;
 
 fn kept(c: Cause, before: Arbiter, after: Arbiter) {
     refused(c);
     fact(b"state kept", same_state(before, after));
 }
 
-pub fn answer(s: Arbiter) {
-    let done = slot(s);
+fn told(s: Arbiter, done: SlotResult) {
     let after = done.state;
     let a = done.answer;
     match a {
@@ -35,6 +36,10 @@ pub fn answer(s: Arbiter) {
     }
 }
 
+pub fn answer(s: Arbiter) {
+    told(s, slot(s));
+}
+
 // On table T, with the credit and the backlog of each place, and the slot number.
 fn line(c: u32, q: u32, second_c: u32, second_q: u32, at: u64) {
     let s = t_with(account(c, q), account(second_c, second_q), at);
@@ -42,6 +47,16 @@ fn line(c: u32, q: u32, second_c: u32, second_q: u32, at: u64) {
     state(s);
     text(b":");
     answer(s);
+    end();
+}
+
+// The same of a state that is lent.
+fn loan(c: u32, q: u32, second_c: u32, second_q: u32, at: u64) {
+    let s = t_with(account(c, q), account(second_c, second_q), at);
+    text(b"slot_of_a_loan of");
+    state(s);
+    text(b":");
+    told(s, slot_of_a_loan(s));
     end();
 }
 
@@ -69,9 +84,19 @@ fn limits() {
     line(9, 1, 0, 0, 4611686018427387904);
 }
 
+// Granted, idle, refused 22 and refused 23.
+fn loans() {
+    loan(8, 1, 4, 1, 0);
+    loan(2, 1, 2, 1, 0);
+    loan(8, 1, 4, 0, 4611686018427387904);
+    loan(9, 1, 0, 0, 4611686018427387904);
+}
+
 pub fn all() {
     text(b"-- slot: 23, 22\n");
     grants();
     above_the_burst();
     limits();
+    text(b"-- slot_of_a_loan: 23, 22\n");
+    loans();
 }

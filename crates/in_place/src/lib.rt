@@ -1,0 +1,29 @@
+// The thin form of slot: the unit's main loop lends the arbiter's state and finds it advanced by one slot.
+use arbiter::state::Arbiter;
+use calls::slot::SlotAnswer;
+use calls::slot::SlotResult;
+use calls::slot::slot;
+ghost use mathlib.Core.Path.{_≡_};
+ghost use Rattle.arbiter.specs.Limits.{maxPlaces};
+ghost use Rattle.calls.specs.Calls.{slot, called, slotResultOf};
+
+// The lent state is what the by-value slot hands back, and the answer is its answer. Refused, 23 and 22: the state is as it was.
+pub fn slot_in_place(s: &mut Arbiter) -> SlotAnswer
+    ensures { λ a. ⌜ slotResultOf (record { state = now (s .exit); answer = a }) ≡ called maxPlaces (now (s .entry)) slot ⌝ }
+{
+    let done = slot(*s);
+    *s = done.state;
+    done.answer
+}
+
+// For a caller that holds the state by value: a local is lent to the thin form and handed back.
+pub fn slot_of_a_loan(s: Arbiter) -> SlotResult
+    ensures { λ r. ⌜ slotResultOf r ≡ called maxPlaces s slot ⌝ }
+{
+    let mut state = s;
+    let answer = slot_in_place(&mut state);
+    SlotResult {
+        state: state,
+        answer: answer,
+    }
+}
