@@ -5,7 +5,7 @@ use Prim.Native.Nat.{ℕ, zero, suc, _+_, _-_, _≤_, _<_}
 use native.Mathlib.Numerals.{add-one}
 use native.Mathlib.Omega.{arith}
 use borrow.Rule.Slice.PartAt.{part-to-end}
-use lib.ListN.{length, getD, take, drop, set, length-append, length-drop}
+use lib.ListN.{length, getD, take, drop, set, drop-of-length-le, length-append, length-drop}
 use lib.Seq.{take-at, drop-drop}
 use Rattle.lists.specs.Overwriting.{writtenOver}
 use Rattle.lists.specs.Runs.{Result}
@@ -110,16 +110,10 @@ module _ {limit : ℕ} {first : Arbiter} {counts : List ℕ} {s : Arbiter} {p : 
   posting-stop why a = sym (sofar .same ∙ rw (drop-next counts p h) (posted-refused limit s p (getD counts p 0) (drop (suc p) counts) done why (sym e) a))
 
 -- all are posted
-drop-none : (counts : List ℕ) (p : ℕ) → length counts ≤ p → drop p counts ≡ []
-drop-none [] zero h = refl
-drop-none [] (suc p) h = refl
-drop-none (x ∷ counts) zero h = absurd (omega arith)
-drop-none (x ∷ counts) (suc p) h = drop-none counts p (omega arith)
-
 pub posting-end : {limit : ℕ} {first : Arbiter} {counts : List ℕ} {s : Arbiter} {p : ℕ} → Posting limit first counts s p → length counts ≤ p
     → _≡_ {A = Result Arbiter Answer} (record { state = s; answer = accepted }) (posted limit first 0 counts)
 unfolding posted
-posting-end {limit} {first} {counts} {s} {p} sofar h = sym (sofar .same ∙ rw (drop-none counts p h))
+posting-end {limit} {first} {counts} {s} {p} sofar h = sym (sofar .same ∙ rw (drop-of-length-le counts h))
 
 -- ---- posting and the slot
 
