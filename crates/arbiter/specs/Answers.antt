@@ -11,3 +11,10 @@ pub data Answer : Type 0 where
   idle : (stamp : ℕ) → Answer
   -- the call was not carried out, for this reason
   refused : Refusal → Answer
+
+-- a refusal turns down what would go on after any other answer
+abbrev pub unless : {X : Type 0} → Answer → (Refusal → X) → X → X
+unless accepted turned-down goes-on = goes-on
+unless (granted stamp p) turned-down goes-on = goes-on
+unless (idle stamp) turned-down goes-on = goes-on
+unless (refused r) turned-down goes-on = turned-down r

@@ -1,9 +1,10 @@
 -- The arbiter's state, and document 01's test 23: "the state breaks a rule".
+use mathlib.Core.Path.{_≡_}
 use mathlib.Core.Bool.{Bool, true, false, _&&_}
 use mathlib.Core.List.{List}
 use Prim.Native.Nat.{ℕ}
 use lib.Dec.{ltb, leb, eqb}
-use lib.ListN.{take, drop, getD}
+use lib.ListN.{length, take, drop, getD}
 use Rattle.lists.specs.Sums.{total, every, upTo}
 use Rattle.arbiter.specs.declared.table.Requestor.{Requestor}
 use Rattle.arbiter.specs.declared.state.Account.{Account}
@@ -32,6 +33,11 @@ backlogFits a = leb (backlog a) maxBacklog
 -- the account of place p
 abbrev pub accountAt : ℕ → List Account → Account
 accountAt p accounts = getD accounts p noAccount
+
+-- the state's arrays have `limit` elements each
+pub record Shaped (limit : ℕ) (s : Arbiter) : Type 0 where
+  pub rows : length (s .table .requestors) ≡ limit
+  pub accounts : length (s .accounts) ≡ limit
 
 -- the credits of the first k places sum to at most their bursts
 abbrev pub creditsHold : List Requestor → List Account → ℕ → Bool

@@ -9,6 +9,6 @@ pub mod input;
 pub mod refusals;
 pub mod start;
 pub mod state;
-mod sums;
+pub mod sums;
 pub mod table;
 pub mod units;

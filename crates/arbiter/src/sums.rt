@@ -1,9 +1,59 @@
-// The sums of bursts and of rates above a place. Each calls itself for one place fewer.
+// A table's rates and bursts in columns, and their sums above a place. Columns of numbers can be lent: a sum, which calls itself for
+// one place fewer, and a slot, which looks at every place, then copy no table.
+use crate::state::Arbiter;
 use crate::table::Table;
 ghost use mathlib.Core.Path.{_≡_};
+ghost use mathlib.Core.List.{map};
 ghost use Prim.Native.Nat.{ℕ, _*_, _≤_};
+ghost use lib.ListN.{length, take};
+ghost use Rattle.lists.specs.Sums.{total};
 ghost use Rattle.arbiter.specs.Limits.{maxPlaces};
+ghost use Rattle.arbiter.specs.Table.{rate, burst};
 ghost use Rattle.arbiter.specs.Figures.{burstsAbove, ratesAbove};
+
+// The rates and the bursts of a table's rows.
+pub struct Columns {
+    pub rates: [u32; Arbiter::MAX_PLACES],
+    pub bursts: [u32; Arbiter::MAX_PLACES],
+}
+
+pub fn columns_of(t: Table) -> Columns
+    ensures { λ c. ⌜ (c .rates ≡ map rate (t .requestors)) × (c .bursts ≡ map burst (t .requestors)) ⌝ }
+{
+    let mut rates = [0u32; Arbiter::MAX_PLACES];
+    let mut bursts = [0u32; Arbiter::MAX_PLACES];
+    let mut p: usize = 0;
+    while p < Arbiter::MAX_PLACES {
+        let r = t.requestors[p];
+        rates[p] = r.rate;
+        bursts[p] = r.burst;
+        p = p + 1;
+    }
+    Columns {
+        rates: rates,
+        bursts: bursts,
+    }
+}
+
+fn wide(x: u32) -> u64
+    ensures { λ (r : ℕ). ⌜ (r ≡ x) × (r ≤ 4294967295) ⌝ }
+{
+    x as u64
+}
+
+// The sum of the numbers above place p.
+fn sum_above(numbers: &[u32], p: usize) -> u64
+    requires { ⌜ (p ≤ maxPlaces) × (p ≤ length (now numbers)) ⌝ }
+    ensures sum { λ (r : ℕ). ⌜ r ≡ total (λ x. x) (take p (now (numbers .entry))) ⌝ }
+    ensures small { λ (r : ℕ). ⌜ r ≤ p * 4294967295 ⌝ }
+{
+    if p == 0 {
+        0
+    } else {
+        let q = p - 1;
+        sum_above(numbers, q) + wide(numbers[q])
+    }
+}
 
 // The sum of the bursts above p: B of document 01.
 pub(crate) fn bursts_above(t: Table, p: usize) -> u64
@@ -11,13 +61,9 @@ pub(crate) fn bursts_above(t: Table, p: usize) -> u64
     ensures sum { λ (r : ℕ). ⌜ r ≡ burstsAbove p (t .requestors) ⌝ }
     ensures small { λ (r : ℕ). ⌜ r ≤ p * 4294967295 ⌝ }
 {
-    if p == 0 {
-        0
-    } else {
-        let q = p - 1;
-        let r = t.requestors[q];
-        bursts_above(t, q) + (r.burst as u64)
-    }
+    let columns = columns_of(t);
+    let bursts = columns.bursts;
+    sum_above(&bursts, p)
 }
 
 // The sum of the rates above p; R of document 01 is D less this.
@@ -26,11 +72,7 @@ pub(crate) fn rates_above(t: Table, p: usize) -> u64
     ensures sum { λ (r : ℕ). ⌜ r ≡ ratesAbove p (t .requestors) ⌝ }
     ensures small { λ (r : ℕ). ⌜ r ≤ p * 4294967295 ⌝ }
 {
-    if p == 0 {
-        0
-    } else {
-        let q = p - 1;
-        let r = t.requestors[q];
-        rates_above(t, q) + (r.rate as u64)
-    }
+    let columns = columns_of(t);
+    let rates = columns.rates;
+    sum_above(&rates, p)
 }

@@ -8,15 +8,16 @@ use native.Mathlib.Omega.{arith}
 use borrow.Author.Tests.{leb-true}
 use borrow.Rule.Slice.PartMut.{putMid}
 use lib.Dec.{leb}
-use lib.ListN.{length, set, take, drop, drop-of-length-le}
+use lib.ListN.{length, set, take, drop, length-take, drop-of-length-le}
 use Rattle.lists.specs.Overwriting.{writtenOver}
 use Rattle.lists.proofs.Tests.{cases}
 use Rattle.lists.proofs.Overwriting.{length-over, written-behind}
 use Rattle.arbiter.specs.declared.refusals.Refusal.{Refusal}
 use Rattle.arbiter.specs.declared.table.Requestor.{Requestor}
+use Rattle.arbiter.specs.declared.table.Table.{Table}
 use Rattle.arbiter.specs.declared.state.Account.{Account}
 use Rattle.arbiter.specs.declared.state.Arbiter.{Arbiter}
-use Rattle.arbiter.specs.Limits.{maxSlot}
+use Rattle.arbiter.specs.Limits.{maxPlaces, maxSlot}
 use Rattle.arbiter.specs.Refusals.{Verdict, faultless, fault, refusal, gate, then}
 use Rattle.arbiter.specs.Answers.{Answer, accepted, refused}
 use Rattle.arbiter.specs.State.{sound}
@@ -26,9 +27,11 @@ use Rattle.arbiter.proofs.Sound.{Sound}
 use Rattle.calls.specs.declared.slot.Grant.{Grant}
 use Rattle.calls.specs.declared.slot.Grant.the-variants.{Nobody, Place}
 use Rattle.calls.specs.Rule.{eligible, later, firstEligible}
+use Rattle.calls.specs.Columns.{accountsOf, columnsGrant, columnsAfter, Room}
 use Rattle.calls.specs.Calls.{grantOf, advanced}
 use Rattle.calls.specs.Log.{grantByte, slotsState, slotsLog, slotsVerdict, runVerdict, Outcome, run}
-use Rattle.calls.proofs.Kept.{places-count, fair-table, advanced-sound}
+use Rattle.calls.proofs.InColumns.{Own, own-grant, own-room, own-next}
+use Rattle.calls.proofs.Kept.{fair-table, advanced-sound}
 
 -- ---- the byte of a grant
 
@@ -48,11 +51,15 @@ first-inside d (r ∷ rs) (a ∷ accounts) p e = cases (eligible d r a)
     further Nobody f same inside = let z : _≡_ {A = ℕ} 0 1 = cc in absurd (omega arith)
     further (Place q) f same inside = let next-is : suc q ≡ p = cc in omega (arith, inside q f)
 
+-- a grant among the first n places has a byte of its own
+pub byte-of : (d n : ℕ) (rs : List Requestor) (accounts : List Account) (g : Grant) → n ≤ 255 → g ≡ firstEligible d (take n rs) accounts → grantByte g < 256
+byte-of d n rs accounts Nobody few e = omega arith
+byte-of d n rs accounts (Place p) few e = omega (arith, first-inside d (take n rs) accounts p (sym e), length-take n rs)
+
 pub byte-fits : (s : Arbiter) (g : Grant) (places : ℕ) → Sound places s → places ≤ 255 → g ≡ grantOf s → grantByte g < 256
 unfolding grantOf
-byte-fits s Nobody places v few e = omega arith
-byte-fits s (Place p) places v few e =
-    omega (arith, first-inside (s .table .denominator) _ (s .accounts) p (sym e), places-count places s v, fair-table places s v .count-most)
+byte-fits s g places v few e =
+    byte-of (s .table .denominator) (s .table .count) (s .table .requestors) (s .accounts) g (omega (arith, fair-table places s v .count-most)) e
 
 -- ---- one slot more at the end
 
@@ -79,6 +86,11 @@ slots-sound limit zero s v h = (v, omega arith)
 slots-sound limit (suc k) s v h =
     let rest = slots-sound limit k (advanced s (grantOf s)) (advanced-sound limit s v (omega arith)) (omega arith) in
     (rest .0, omega (arith, rest .1))
+
+pub slots-table : (k : ℕ) (s : Arbiter) → slotsState k s .table ≡ s .table
+unfolding slotsState advanced
+slots-table zero s = refl
+slots-table (suc k) s = slots-table k (advanced s (grantOf s))
 
 -- ---- in a lent log
 
@@ -115,6 +127,54 @@ module _ {s : Arbiter} {old log : List ℕ} {state : Arbiter} {k : ℕ} (a : Alo
       let over : length old ≤ length (slotsLog k s) = omega (arith, length-log k s) in
       let none : drop (length (slotsLog k s)) old ≡ [] = drop-of-length-le old over in
       (a .now ∙ ap (λ n. slotsState n s) all, a .same ∙ ap (λ l. slotsLog k s ++ l) none ∙ append-nil (slotsLog k s) ∙ ap (λ n. slotsLog n s) all)
+
+-- ---- in columns that are lent from slot to slot
+
+same-state : (t : Table) (s : Arbiter) (slot : ℕ) (accounts : List Account) → t ≡ s .table → slot ≡ s .slot .0 → accounts ≡ s .accounts
+    → _≡_ {A = Arbiter} (record { table = t; slot = record { 0 = slot }; accounts = accounts }) s
+same-state t s slot accounts e f g = rw (e, f, g)
+
+-- the first k slots of s are done, and the columns are those of the state then
+pub record Running (s : Arbiter) (old log rates bursts credits backlogs : List ℕ) (k : ℕ) : Type 0 where
+  pub along : Along s old log (slotsState k s) k
+  pub own : Own (slotsState k s) rates bursts credits backlogs
+
+pub running-none : (s : Arbiter) (old rates bursts credits backlogs : List ℕ) → Own s rates bursts credits backlogs → Running s old old rates bursts credits backlogs 0
+unfolding slotsState
+running-none s old rates bursts credits backlogs own = record { along = along-none s old; own = own }
+
+module _ {s : Arbiter} {old log rates bursts credits backlogs : List ℕ} {k : ℕ} (r : Running s old log rates bursts credits backlogs k) where
+  abbrev grant-then : Grant
+  grant-then = columnsGrant (s .table .denominator) (s .table .count) rates bursts credits backlogs
+
+  grant-is : grant-then ≡ grantOf (slotsState k s)
+  grant-is = ap (λ t. columnsGrant (t .denominator) (t .count) rates bursts credits backlogs) (sym (slots-table k s)) ∙ own-grant (r .own)
+
+  pub running-room : Sound maxPlaces s → s .slot .0 + k ≤ maxSlot → Room maxPlaces (s .table .count) rates bursts credits backlogs
+  running-room v h = rw (slots-table k s) at (own-room (r .own) (slots-sound maxPlaces k s v h .0))
+
+  pub running-next : k < length log → (after-credits after-backlogs part : List ℕ)
+      → length after-credits ≡ length credits → length after-backlogs ≡ length backlogs
+      → accountsOf after-credits after-backlogs ≡ columnsAfter (s .table .denominator) (s .table .count) grant-then rates bursts credits backlogs
+      → part ≡ writtenOver (grantByte grant-then ∷ []) (take (length log - k) (drop k log))
+      → Running s old (putMid k (length log - k) log part) rates bursts after-credits after-backlogs (k + 1)
+  running-next h after-credits after-backlogs part l m e f =
+      let at-next : slotsState (k + 1) s ≡ advanced (slotsState k s) (grantOf (slotsState k s)) = ap (λ n. slotsState n s) (add-one k) ∙ state-more k s in
+      record {
+        along = along-next (r .along) h (slotsState (k + 1) s) part at-next (f ∙ ap (λ g. writtenOver (grantByte g ∷ []) (take (length log - k) (drop k log))) grant-is);
+        own =
+            rw at-next
+            (own-next (r .own) after-credits after-backlogs grant-then grant-is l m
+            (e ∙ ap (λ t. columnsAfter (t .denominator) (t .count) grant-then rates bursts credits backlogs) (sym (slots-table k s))));
+      }
+
+  -- every byte is written: the columns hold the accounts of the last state, and its table and its slot number are known
+  pub running-all : length log ≤ k → Sound maxPlaces s → s .slot .0 + length old ≤ maxSlot → (accounts : List Account) → accounts ≡ accountsOf credits backlogs
+      → (_≡_ {A = Arbiter} (record { table = s .table; slot = record { 0 = s .slot .0 + k }; accounts = accounts }) (slotsState (length old) s)) × (log ≡ slotsLog (length old) s)
+  running-all h v below accounts e =
+      let all = along-all (r .along) h in
+      let last = slots-sound maxPlaces k s v (omega (arith, r .along .within)) in
+      (same-state (s .table) (slotsState k s) (s .slot .0 + k) accounts (sym (slots-table k s)) (sym (last .1)) (e ∙ r .own .accounts-are) ∙ all .0, all .1)
 
 -- the first byte of a list that has one
 pub first-byte : (x y : ℕ) (old : List ℕ) → x ≡ y → 1 ≤ length old → set old 0 x ≡ writtenOver (y ∷ []) old

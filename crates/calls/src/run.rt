@@ -1,13 +1,15 @@
 // A run: as many slots as a lent log has bytes. The state is tested once; each slot is given only the unwritten rest of the log.
+use crate::columns::account_columns_of;
+use crate::columns::accounts_of;
+use crate::rule::one_slot;
 use crate::slot::Grant;
-use crate::slot::advance;
-use crate::slot::find;
 use arbiter::input::check_input;
 use arbiter::refusals::Cause;
 use arbiter::refusals::StateRefusal;
 use arbiter::refusals::Verdict;
 use arbiter::refusals::first_fault;
 use arbiter::state::Arbiter;
+use arbiter::sums::columns_of;
 use arbiter::units::Slots;
 ghost use mathlib.Core.Path.{_≡_};
 ghost use mathlib.Core.Bool.{true};
@@ -19,7 +21,7 @@ ghost use Rattle.arbiter.specs.Limits.{maxPlaces, maxSlot};
 ghost use Rattle.arbiter.specs.Refusals.{verdictOf, refusalOf};
 ghost use Rattle.arbiter.specs.Answers.{refused};
 ghost use Rattle.arbiter.specs.State.{sound};
-ghost use Rattle.calls.specs.Calls.{grantOf, advanced};
+ghost use Rattle.calls.specs.Columns.{accountsOf, columnsGrant, columnsAfter, Room};
 ghost use Rattle.calls.specs.Log.{grantByte, slotsState, slotsLog, slotsVerdict, run, runAnswerOf, outcomeOf};
 
 pub enum RunAnswer {
@@ -44,14 +46,21 @@ fn grant_byte(g: Grant) -> u8
 }
 
 // One slot, and its byte at the start of the rest of the log.
-fn log_slot(s: Arbiter, rest: &mut [u8]) -> Arbiter
-    requires { ⌜ (sound maxPlaces s ≡ true) × (s .slot .0 < maxSlot) × (1 ≤ length (now rest)) ⌝ }
-    ensures state { λ r. ⌜ r ≡ advanced s (grantOf s) ⌝ }
-    ensures log { λ _. ⌜ now (rest .exit) ≡ writtenOver (grantByte (grantOf s) ∷ []) (now (rest .entry)) ⌝ }
+fn log_slot(
+    d: u32,
+    n: usize,
+    rates: &[u32],
+    bursts: &[u32],
+    credits: &mut [u32],
+    backlogs: &mut [u32],
+    rest: &mut [u8],
+)
+    requires { ⌜ Room maxPlaces n (now rates) (now bursts) (now credits) (now backlogs) × (n ≤ 255) × (1 ≤ length (now rest)) ⌝ }
+    ensures accounts { λ _. ⌜ accountsOf (now (credits .exit)) (now (backlogs .exit)) ≡ columnsAfter d n (columnsGrant d n (now (rates .entry)) (now (bursts .entry)) (now (credits .entry)) (now (backlogs .entry))) (now (rates .entry)) (now (bursts .entry)) (now (credits .entry)) (now (backlogs .entry)) ⌝ }
+    ensures log { λ _. ⌜ now (rest .exit) ≡ writtenOver (grantByte (columnsGrant d n (now (rates .entry)) (now (bursts .entry)) (now (credits .entry)) (now (backlogs .entry))) ∷ []) (now (rest .entry)) ⌝ }
 {
-    let g = find(s);
+    let g = one_slot(d, n, rates, bursts, credits, backlogs);
     rest[0] = grant_byte(g);
-    advance(s, g)
 }
 
 // As many slots as the log has bytes.
@@ -60,13 +69,35 @@ fn log_slots(s: Arbiter, log: &mut [u8]) -> Arbiter
     ensures state { λ r. ⌜ r ≡ slotsState (length (now (log .entry))) s ⌝ }
     ensures log { λ _. ⌜ now (log .exit) ≡ slotsLog (length (now (log .entry))) s ⌝ }
 {
-    let mut state = s;
+    let t = s.table;
+    let d = t.denominator;
+    let n = t.count;
+    let first = s.slot;
+    let rows = columns_of(t);
+    let rates = rows.rates;
+    let bursts = rows.bursts;
+    let columns = account_columns_of(s);
+    let mut credits = columns.credits;
+    let mut backlogs = columns.backlogs;
     let mut at: usize = 0;
     while at < log.len() {
-        state = log_slot(state, &mut log[at..]);
+        log_slot(
+            d,
+            n,
+            &rates,
+            &bursts,
+            &mut credits,
+            &mut backlogs,
+            &mut log[at..],
+        );
         at = at + 1;
     }
-    state
+    let accounts = accounts_of(&credits, &backlogs);
+    Arbiter {
+        table: t,
+        slot: Slots(first.0 + (at as u64)),
+        accounts: accounts,
+    }
 }
 
 // Check 22 of a run.

@@ -1,20 +1,19 @@
-// A slot grants the first eligible place, or idles, and advances every account.
+// A slot of a state: its checks, the rule on the state's columns, and its answer.
+use crate::columns::account_columns_of;
+use crate::columns::accounts_of;
+use crate::rule::one_slot;
 use arbiter::refusals::Cause;
 use arbiter::refusals::StateRefusal;
-use arbiter::state::Account;
 use arbiter::state::Arbiter;
-use arbiter::table::Requestor;
+use arbiter::sums::columns_of;
 use arbiter::units::Slots;
-use arbiter::units::Transfers;
 ghost use mathlib.Core.Path.{_≡_};
 ghost use mathlib.Core.Bool.{true};
-ghost use Prim.Native.Nat.{_+_, _<_, _^_};
+ghost use Prim.Native.Nat.{_<_};
 ghost use Rattle.arbiter.specs.Limits.{maxPlaces, maxSlot};
 ghost use Rattle.arbiter.specs.Refusals.{refusalOf};
 ghost use Rattle.arbiter.specs.Answers.{refused};
 ghost use Rattle.arbiter.specs.State.{sound};
-ghost use Rattle.calls.specs.Rule.{eligible, served, passed};
-ghost use Rattle.calls.specs.Places.{names, accountAfter};
 ghost use Rattle.calls.specs.Calls.{slot, grantOf, advanced, done, called, slotResultOf};
 
 // Whom a slot grants.
@@ -34,107 +33,42 @@ pub struct SlotResult {
     pub answer: SlotAnswer,
 }
 
-fn is_eligible(d: u32, r: Requestor, a: Account) -> bool
-    requires { ⌜ a .credit + r .rate < 2 ^ 32 ⌝ }
-    ensures { λ b. ⌜ b ≡ eligible d r a ⌝ }
-{
-    let credit = a.credit;
-    let raised = credit + r.rate;
-    let q = a.backlog;
-    if 0 < q.0 {
-        return d <= raised;
-    }
-    false
+// What one slot of a state comes to.
+struct Advanced {
+    state: Arbiter,
+    grant: Grant,
 }
 
-// The first eligible place, or nobody.
-pub(crate) fn find(s: Arbiter) -> Grant
-    requires { ⌜ sound maxPlaces s ≡ true ⌝ }
-    ensures { λ g. ⌜ g ≡ grantOf s ⌝ }
+// The rule on a state's columns.
+fn advance_state(s: Arbiter) -> Advanced
+    requires { ⌜ (sound maxPlaces s ≡ true) × (s .slot .0 < maxSlot) ⌝ }
+    ensures grant { λ r. ⌜ r .grant ≡ grantOf s ⌝ }
+    ensures state { λ r. ⌜ r .state ≡ advanced s (grantOf s) ⌝ }
 {
     let t = s.table;
-    let d = t.denominator;
-    let n = t.count;
-    let mut p: usize = 0;
-    let g = loop {
-        if n <= p {
-            break Grant::Nobody;
-        }
-        let r = t.requestors[p];
-        let a = s.accounts[p];
-        if is_eligible(d, r, a) {
-            break Grant::Place(p);
-        }
-        p = p + 1;
-    };
-    g
-}
-
-// The account of the granted place.
-fn serve(d: u32, r: Requestor, a: Account) -> Account
-    requires { ⌜ (a .credit + r .rate < 2 ^ 32) × (eligible d r a ≡ true) ⌝ }
-    ensures { λ b. ⌜ b ≡ served d r a ⌝ }
-{
-    let q = a.backlog;
-    Account {
-        credit: a.credit + r.rate - d,
-        backlog: Transfers(q.0 - 1),
-    }
-}
-
-// The account of any other place. Only a place with nothing waiting is capped at its burst.
-fn pass(r: Requestor, a: Account) -> Account
-    requires { ⌜ a .credit + r .rate < 2 ^ 32 ⌝ }
-    ensures { λ b. ⌜ b ≡ passed r a ⌝ }
-{
-    let q = a.backlog;
-    let c = a.credit + r.rate;
-    if q.0 == 0 {
-        if r.burst < c {
-            return Account {
-                credit: r.burst,
-                backlog: q,
-            };
-        }
-    }
-    Account {
-        credit: c,
-        backlog: q,
-    }
-}
-
-// The account of place p after a slot that granted g.
-fn account_after(d: u32, g: Grant, p: usize, r: Requestor, a: Account) -> Account
-    requires { ⌜ (a .credit + r .rate < 2 ^ 32) × (names g p ≡ true → eligible d r a ≡ true) ⌝ }
-    ensures { λ b. ⌜ b ≡ accountAfter d g p r a ⌝ }
-{
-    match g {
-        Grant::Nobody => pass(r, a),
-        Grant::Place(i) => { if i == p { serve(d, r, a) } else { pass(r, a) } }
-    }
-}
-
-// Every account after a slot that granted g, and the next slot number.
-pub(crate) fn advance(s: Arbiter, g: Grant) -> Arbiter
-    requires { ⌜ (sound maxPlaces s ≡ true) × (s .slot .0 < maxSlot) × (g ≡ grantOf s) ⌝ }
-    ensures { λ r. ⌜ r ≡ advanced s g ⌝ }
-{
-    let t = s.table;
-    let d = t.denominator;
-    let n = t.count;
     let at = s.slot;
-    let mut accounts = s.accounts;
-    let mut p: usize = 0;
-    while p < n {
-        let r = t.requestors[p];
-        let a = accounts[p];
-        accounts[p] = account_after(d, g, p, r, a);
-        p = p + 1;
-    }
-    Arbiter {
-        table: t,
-        slot: Slots(at.0 + 1),
-        accounts: accounts,
+    let rows = columns_of(t);
+    let rates = rows.rates;
+    let bursts = rows.bursts;
+    let columns = account_columns_of(s);
+    let mut credits = columns.credits;
+    let mut backlogs = columns.backlogs;
+    let g = one_slot(
+        t.denominator,
+        t.count,
+        &rates,
+        &bursts,
+        &mut credits,
+        &mut backlogs,
+    );
+    let accounts = accounts_of(&credits, &backlogs);
+    Advanced {
+        state: Arbiter {
+            table: t,
+            slot: Slots(at.0 + 1),
+            accounts: accounts,
+        },
+        grant: g,
     }
 }
 
@@ -144,8 +78,9 @@ fn carry_out(s: Arbiter) -> SlotResult
     ensures { λ r. ⌜ slotResultOf r ≡ done s slot ⌝ }
 {
     let at = s.slot;
-    let g = find(s);
-    let next = advance(s, g);
+    let done = advance_state(s);
+    let next = done.state;
+    let g = done.grant;
     match g {
         Grant::Nobody => SlotResult {
             state: next,

@@ -13,14 +13,14 @@ use Rattle.arbiter.specs.declared.state.Arbiter.{Arbiter}
 use Rattle.arbiter.specs.Limits.{maxSlot, maxInput}
 use Rattle.arbiter.specs.Refusals.{Verdict, faultless, fault, gate, then, resolve}
 use Rattle.arbiter.specs.Answers.{accepted, refused}
-use Rattle.arbiter.specs.State.{sound}
+use Rattle.arbiter.specs.State.{sound, Shaped}
 use Rattle.arbiter.specs.Input.{inputVerdict}
 use Rattle.arbiter.proofs.Checks.{gate-open, then-open}
 use Rattle.arbiter.proofs.Sound.{sound-shut}
 use Rattle.calls.specs.Calls.{slot, grantOf, advanced, slotAnswer, done, ruleVerdict, ruled}
 use Rattle.calls.specs.Log.{grantByte, slotsState, slotsLog, slotsVerdict, runVerdict, Outcome, run}
 use Rattle.calls.proofs.Logs.{slots-sound}
-use Rattle.guarantees.specs.Counts.{slotsIn, Shaped, stateAfter}
+use Rattle.guarantees.specs.Counts.{slotsIn, stateAfter}
 use Rattle.guarantees.specs.RunSlots.{slots, answerByte, Run-is-slots, Run-from-start, Run-splits}
 use Rattle.guarantees.proofs.Grants.{slotIn, in-slot-answer, slot-in}
 use Rattle.guarantees.proofs.Sound.{sound-of, end-ruled, answers-ruled}

@@ -13,11 +13,10 @@ use Rattle.lists.specs.Runs.{end, answers}
 use Rattle.lists.proofs.Runs.{keeps, same-end, same-answers}
 use Rattle.arbiter.specs.declared.state.Arbiter.{Arbiter}
 use Rattle.arbiter.specs.Refusals.{faultless, gate}
-use Rattle.arbiter.specs.State.{sound}
+use Rattle.arbiter.specs.State.{sound, Shaped}
 use Rattle.arbiter.proofs.Sound.{Sound, sound-open, sound-shut}
 use Rattle.calls.specs.Calls.{Call, post, more, filled, ruleVerdict, ruled, called}
 use Rattle.calls.proofs.Kept.{accounts-cover, advanced-sound}
-use Rattle.guarantees.specs.Counts.{Shaped}
 use Rattle.guarantees.proofs.Step.{by-kind, post-place, post-fits, filled-credits, filled-backlog, slot-below}
 
 module _ (limit : ℕ) (s : Arbiter) where

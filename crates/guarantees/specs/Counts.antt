@@ -65,8 +65,3 @@ stateAfter limit t first calls = Runs.end (called limit) (startState limit t fir
 
 abbrev pub heardFrom : ℕ → Arbiter → List Call → List Answer
 heardFrom limit s calls = Runs.answers (called limit) s calls
-
--- the state's arrays have `limit` elements each
-pub record Shaped (limit : ℕ) (s : Arbiter) : Type 0 where
-  pub rows : length (s .table .requestors) ≡ limit
-  pub accounts : length (s .accounts) ≡ limit

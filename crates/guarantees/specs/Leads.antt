@@ -12,10 +12,10 @@ use Rattle.arbiter.specs.declared.state.Arbiter.{Arbiter}
 use Rattle.arbiter.specs.Answers.{accepted}
 use Rattle.arbiter.specs.Table.{burst, requestorAt, requestorsOf}
 use Rattle.arbiter.specs.Figures.{burstsAbove, rateLeft}
-use Rattle.arbiter.specs.State.{credit, accountAt}
+use Rattle.arbiter.specs.State.{credit, accountAt, Shaped}
 use Rattle.leads.specs.Lead.{leadOf}
 use Rattle.calls.specs.Log.{run}
-use Rattle.guarantees.specs.Counts.{Waits, Shaped}
+use Rattle.guarantees.specs.Counts.{Waits}
 use Rattle.guarantees.specs.RunSlots.{slots}
 
 -- a is at most b: b is a and some natural number

@@ -9,9 +9,9 @@ use Rattle.arbiter.specs.declared.state.Arbiter.{Arbiter}
 use Rattle.arbiter.specs.Answers.{Answer}
 use Rattle.arbiter.specs.Table.{requestorsOf, requestorAt}
 use Rattle.arbiter.specs.Figures.{finish}
-use Rattle.arbiter.specs.State.{backlog, accountAt, sound}
+use Rattle.arbiter.specs.State.{backlog, accountAt, sound, Shaped}
 use Rattle.calls.specs.Calls.{Call}
-use Rattle.guarantees.specs.Counts.{slotsIn, grantsTo, firstSlots, Accepted, Shaped, stateAfter, heardFrom}
+use Rattle.guarantees.specs.Counts.{slotsIn, grantsTo, firstSlots, Accepted, stateAfter, heardFrom}
 
 -- j transfers wait together at place p. The paper's need is entered with credit at least D; at the finish figure it holds from
 -- any credit, and so does what follows here.

@@ -9,9 +9,10 @@ use Rattle.lists.specs.Runs
 use Rattle.arbiter.specs.declared.table.Table.{Table}
 use Rattle.arbiter.specs.declared.state.Arbiter.{Arbiter}
 use Rattle.arbiter.specs.Answers.{Answer, accepted}
+use Rattle.arbiter.specs.State.{Shaped}
 use Rattle.calls.specs.Calls.{Call, slot, called}
 use Rattle.calls.specs.Log.{grantByte, run}
-use Rattle.guarantees.specs.Counts.{inSlot, slotsIn, Shaped, Accepted, stateAfter, heardFrom}
+use Rattle.guarantees.specs.Counts.{inSlot, slotsIn, Accepted, stateAfter, heardFrom}
 
 -- so many calls of slot
 abbrev pub slots : ℕ → List Call

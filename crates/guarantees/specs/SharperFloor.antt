@@ -9,9 +9,9 @@ use Rattle.arbiter.specs.declared.table.Requestor.{Requestor}
 use Rattle.arbiter.specs.declared.state.Arbiter.{Arbiter}
 use Rattle.arbiter.specs.Table.{requestorsOf, requestorAt}
 use Rattle.arbiter.specs.Figures.{burstsAbove, rateLeft}
-use Rattle.arbiter.specs.State.{credit, accountAt, sound}
+use Rattle.arbiter.specs.State.{credit, accountAt, sound, Shaped}
 use Rattle.calls.specs.Calls.{Call}
-use Rattle.guarantees.specs.Counts.{slotsIn, grantsTo, Waits, Shaped, heardFrom}
+use Rattle.guarantees.specs.Counts.{slotsIn, grantsTo, Waits, heardFrom}
 
 -- Either D × g is at least R × L − B, or R × D × g is at least R × (c + n × L − D + 1) − n × B; each subtraction stands as an
 -- addition on the other side.

@@ -17,7 +17,7 @@ use Rattle.groups.proofs.Readings.{number-takes, number-some}
 use Rattle.arbiter.specs.declared.refusals.Refusal.{Refusal}
 use Rattle.arbiter.specs.declared.state.Arbiter.{Arbiter}
 use Rattle.arbiter.specs.Refusals.{Verdict, faultless, fault, refusal, gate, resolve}
-use Rattle.arbiter.specs.Answers.{Answer, accepted, granted, idle, refused}
+use Rattle.arbiter.specs.Answers.{Answer, accepted, granted, idle, refused, unless}
 use Rattle.arbiter.specs.State.{sound}
 use Rattle.arbiter.specs.Limits.{maxInput}
 use Rattle.arbiter.specs.Start.{noState, start}
@@ -26,7 +26,7 @@ use Rattle.arbiter.proofs.Checks.{fair}
 use Rattle.arbiter.proofs.Sound.{sound-table}
 use Rattle.table_bytes.specs.Reading.{Read, read, stop, next, readAs, numberRead, itemsRead, TableRead, readTable}
 use Rattle.table_bytes.proofs.Accepted.{stop-read, next-open, read-same}
-use Rattle.listing.specs.Listing.{Step, more, last, unless, countsRead, played, slotTold, slotStep, step, startRead, stateRead, begun, headed, firstStep, texts, listing}
+use Rattle.listing.specs.Listing.{Step, more, last, countsRead, played, slotTold, slotStep, step, startRead, stateRead, begun, headed, firstStep, texts, listing}
 use Rattle.listing.specs.Lines.{header, endLine, refusedLine}
 use Rattle.listing.specs.InARow.{InARow, Prints-listing, Comes-to-an-end, Too-long}
 use Rattle.listing.proofs.Counting.{count}

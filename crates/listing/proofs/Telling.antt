@@ -16,7 +16,7 @@ use Rattle.arbiter.specs.declared.refusals.Refusal.{Refusal}
 use Rattle.arbiter.specs.declared.state.Arbiter.{Arbiter}
 use Rattle.arbiter.specs.Limits.{maxPlaces}
 use Rattle.arbiter.specs.Refusals.{Verdict, faultless, fault, refusal, gate}
-use Rattle.arbiter.specs.Answers.{Answer, accepted, granted, idle, refused}
+use Rattle.arbiter.specs.Answers.{Answer, accepted, granted, idle, refused, unless}
 use Rattle.arbiter.specs.State.{sound, noAccount, accountAt}
 use Rattle.arbiter.specs.Start.{noState}
 use Rattle.arbiter.proofs.Checks.{fair}
@@ -27,7 +27,7 @@ use Rattle.calls.specs.declared.slot.Grant.the-variants.{Nobody, Place}
 use Rattle.calls.specs.Calls.{Call, post, slot, done, called, outcome, ruleVerdict, filled, advanced, grantOf}
 use Rattle.listing.specs.Text.{maxEarlier, decimal, spaced, line}
 use Rattle.listing.specs.Lines.{header, endLine, refusedLine, placeItem, creditItems, slotLine}
-use Rattle.listing.specs.Listing.{Step, more, last, unless, countsRead, posted, played, slotTold, slotStep, step, begun, headed, firstStep}
+use Rattle.listing.specs.Listing.{Step, more, last, countsRead, posted, played, slotTold, slotStep, step, begun, headed, firstStep}
 use Rattle.listing.specs.Room.{itemRoom, lineRoom, Outcome, told, noRoom, textOf, written, inBuffer}
 use Rattle.listing.proofs.Digits.{decimal-few}
 use Rattle.listing.proofs.Writing.{spacedCredit, creditsTo, credits-all, item-length, two-length, slot-length}

@@ -8,11 +8,10 @@ use lib.Dec.{leb, eqb}
 use lib.ListN.{length, take, drop}
 use Rattle.lists.specs.Choices.{pick}
 use Rattle.lists.specs.Runs.{Result}
-use Rattle.arbiter.specs.declared.refusals.Refusal.{Refusal}
 use Rattle.arbiter.specs.declared.state.Arbiter.{Arbiter}
 use Rattle.arbiter.specs.declared.table.Table.{Table}
 use Rattle.arbiter.specs.Refusals.{refusal, resolve}
-use Rattle.arbiter.specs.Answers.{Answer, accepted, granted, idle, refused}
+use Rattle.arbiter.specs.Answers.{Answer, accepted, granted, idle, refused, unless}
 use Rattle.arbiter.specs.State.{sound}
 use Rattle.arbiter.specs.Start.{noState, start}
 use Rattle.arbiter.specs.Input.{inputVerdict}
@@ -26,13 +25,6 @@ pub data Step : Type 0 where
   more : (text : List ℕ) → Arbiter → (rest : List ℕ) → Step
   -- print the text, and stop with this state
   last : (text : List ℕ) → Arbiter → Step
-
--- a refusal turns down what would go on after any other answer
-abbrev pub unless : {X : Type 0} → Answer → (Refusal → X) → X → X
-unless accepted turned-down goes-on = goes-on
-unless (granted stamp p) turned-down goes-on = goes-on
-unless (idle stamp) turned-down goes-on = goes-on
-unless (refused why) turned-down goes-on = turned-down why
 
 -- ---- a slot
 

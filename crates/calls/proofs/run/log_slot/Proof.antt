@@ -1,51 +1,49 @@
--- `calls::run::log_slot` meets its contract. The search, its byte, and then the accounts. Assumes nothing.
-use mathlib.Core.Path.{ap, sym, _∙_}
+-- `calls::run::log_slot` meets its contract. The slot, and its byte. Assumes nothing.
+use mathlib.Core.Path.{ap, _∙_}
 use native.Mathlib.Omega.{arith}
 use borrow.Author.Needs.{needs}
-use lib.ListN.{length-map}
-use Rattle.arbiter.specs.Limits.{maxPlaces}
-use Rattle.arbiter.proofs.Sound.{Sound, sound-open}
-use Rattle.calls.specs.Calls.{advanced}
+use Rattle.calls.specs.Columns.{rowsOf, accountsOf, columnsAfter}
 use Rattle.calls.specs.Log.{grantByte}
-use Rattle.calls.proofs.Logs.{byte-fits, first-byte}
+use Rattle.calls.proofs.Logs.{byte-of, first-byte}
 use Rattle.calls.proofs.run.log_slot.Statement.{statement}
 use Rattle.calls.proofs.run.log_slot.Tie as tie
 
--- the state is sound, and its arrays have their lengths
-sound-here : (c : tie.Start) → Sound maxPlaces (c .args .s)
-sound-here c =
-    sound-open maxPlaces (c .args .s)
-    (sym (length-map (c .args .s .table .requestors) _) ∙ c .good .0 .1 .1 .0 .1 .1 .1 .1 .0 .1 .0 .1)
-    (sym (length-map (c .args .s .accounts) _) ∙ c .good .0 .1 .1 .1 .1 .0 .1 .0 .1) (c .pre .0)
-
-find-requires : tie.Need-find-requires
-find-requires c κs = search needs
+one-slot-requires : tie.Need-one-slot-requires
+one-slot-requires c κs = search needs
 
 grant-byte-requires : tie.Need-grant-byte-requires
-grant-byte-requires c κs = byte-fits (c .before .before .args .s) _ maxPlaces (sound-here (c .before .before)) (omega arith) (c .find .ensures)
+grant-byte-requires c κs =
+    let a = c .before .before .before .before .before .before .before .before .before .before .before .before .args in
+    byte-of (a .d) (a .n) (rowsOf (a .rates .now) (a .bursts .now)) (accountsOf (a .credits .now) (a .backlogs .now)) (c .before .before .before .before .one-slot .result) (c .before .before .before .before .before .before .before .before .before .before .before .before .pre .1) (c .before .before .before .before .one-slot .ensures .0)
 
 slice-write-rest : tie.Need-slice-write-rest
 slice-write-rest c = search needs
 
-advance-requires : tie.Need-advance-requires
-advance-requires c κs = search needs
-
 same-length : tie.Need-same-length
 same-length c = search needs
 
+same-length-2 : tie.Need-same-length-2
+same-length-2 c = search needs
+
+same-length-3 : tie.Need-same-length-3
+same-length-3 c = search needs
+
 returns : tie.Need-returns
 returns c =
-    let found = c .before .before .find .ensures in
-    let a = c .before .before .before .before in
-    (c .advance .ensures ∙ ap (advanced (a .args .s)) found, first-byte _ _ _ (c .before .grant-byte .ensures ∙ ap grantByte found) (a .pre .2))
+    let a = c .before .before .before .before .before .before .before .before .before .before .before .before .before .args in
+    let found = c .before .before .before .before .before .one-slot .ensures .0 in (
+      c .before .before .before .before .before .one-slot .ensures .1 ∙ ap (λ g. columnsAfter (a .d) (a .n) g (a .rates .now) (a .bursts .now) (a .credits .now) (a .backlogs .now)) found,
+      first-byte _ _ _ (c .grant-byte .ensures ∙ ap grantByte found) (c .before .before .before .before .before .before .before .before .before .before .before .before .before .pre .2),
+    )
 
 pub log-slot-spec : {M : Type 1} → statement M
 log-slot-spec =
     tie.close
     (tie.spec
-    find-requires
+    one-slot-requires
     grant-byte-requires
     slice-write-rest
-    advance-requires
     same-length
+    same-length-2
+    same-length-3
     returns)

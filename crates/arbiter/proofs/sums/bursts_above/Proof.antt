@@ -1,0 +1,32 @@
+-- `arbiter::sums::bursts_above` meets its contract. By the sum of the column. Assumes nothing.
+use mathlib.Core.Path.{_≡_, ap, sym, _∙_}
+use Prim.Native.Nat.{_≤_}
+use native.Mathlib.Omega.{arith}
+use borrow.Author.Needs.{needs}
+use lib.ListN.{length, length-map, take}
+use Rattle.arbiter.specs.Limits.{maxPlaces}
+use Rattle.arbiter.specs.Table.{burst}
+use Rattle.lists.proofs.Sums.{total-take-map}
+use Rattle.lists.specs.Sums.{total}
+use Rattle.arbiter.proofs.sums.bursts_above.Statement.{statement}
+use Rattle.arbiter.proofs.sums.bursts_above.Tie as tie
+
+-- the table has its rows
+rows : (c : tie.Start) → length (c .args .t .requestors) ≡ maxPlaces
+rows c = sym (length-map (c .args .t .requestors) _) ∙ c .good .0 .1 .1 .1 .1 .0 .1 .0 .1
+
+columns-of-requires : tie.Need-columns-of-requires
+columns-of-requires c κs = search needs
+
+slice-aggregate-sum-above : tie.Need-slice-aggregate-sum-above
+slice-aggregate-sum-above c = search needs
+
+sum-above-requires : tie.Need-sum-above-requires
+sum-above-requires c κs = (c .before .before .before .pre, rw (c .before .before .columns-of .ensures .1) (omega (arith, c .before .before .before .pre, length-map (c .before .before .before .args .t .requestors) burst, rows (c .before .before .before))))
+
+returns : tie.Need-returns
+returns c = (c .sum-above .ensures .0 ∙ ap (λ l. total (λ x. x) (take (c .before .before .before .before .args .p) l)) (c .before .before .before .columns-of .ensures .1) ∙ total-take-map (λ x. x) burst (c .before .before .before .before .args .p) (c .before .before .before .before .args .t .requestors), c .sum-above .ensures .1)
+
+pub bursts-above-spec : {M : Type 1} → statement M
+bursts-above-spec =
+    tie.close (tie.spec columns-of-requires slice-aggregate-sum-above sum-above-requires returns)

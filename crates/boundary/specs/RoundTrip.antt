@@ -1,0 +1,16 @@
+-- A state's words, read back, are that state; words of the right length, read and written again, are the same words. It holds for any
+-- largest N.
+use mathlib.Core.Path.{_≡_}
+use mathlib.Core.Bool.{true}
+use mathlib.Core.List.{List}
+use Prim.Native.Nat.{ℕ}
+use Rattle.arbiter.specs.declared.state.Arbiter.{Arbiter}
+use Rattle.arbiter.specs.State.{Shaped}
+use Rattle.boundary.specs.Words.{stateWords, wordsState, rightLength}
+
+abbrev pub Words-read-back : Type 0
+Words-read-back =
+    (limit : ℕ) (s : Arbiter) → Shaped limit s → (rightLength limit (stateWords s) ≡ true) × (wordsState limit (stateWords s) ≡ s)
+
+abbrev pub State-written-back : Type 0
+State-written-back = (limit : ℕ) (words : List ℕ) → rightLength limit words ≡ true → stateWords (wordsState limit words) ≡ words

@@ -1,0 +1,149 @@
+-- Worked examples of the calls on lent words, with document 01's table T and cases 2, 3 and 5. A row is a call, and what was lent and the
+-- outcome after it; what is not in the paper was worked out by hand. A state of T is 99 words where the largest N is 16.
+use mathlib.Core.Path.{_≡_}
+use mathlib.Core.List.{List, [], _∷_, _++_, map}
+use Prim.Native.Nat.{ℕ, _+_, _-_, _*_}
+use lib.IntN.{ℤ, pos, negsuc}
+use lib.ListN.{replicate}
+use Rattle.arbiter.specs.Limits.{maxPlaces, maxSlot}
+use Rattle.boundary.specs.Words.{wordCount}
+use Rattle.boundary.specs.Boundary.{Stated, started, posted, Slotted, slotted, Ran, ran, Figured, figured, Led, led, Wrote, wrote}
+
+-- ---- words
+
+-- D, N and the slot number; the rows of two places, their accounts, and zeros up to the largest N behind both
+unfoldable pub twoPlaces : (head rows accounts : List ℕ) → List ℕ
+twoPlaces head rows accounts = head ++ rows ++ replicate (4 * (maxPlaces - 2)) 0 ++ accounts ++ replicate (2 * (maxPlaces - 2)) 0
+
+-- T with this n at place 1: D=4; place 0: n=1, b=8, j=1, L=4; place 1: b=4, j=1, L=7
+unfoldable pub rated : (n slot : ℕ) → (accounts : List ℕ) → List ℕ
+rated n slot accounts = twoPlaces (4 ∷ 2 ∷ slot ∷ []) (1 ∷ 8 ∷ 1 ∷ 4 ∷ n ∷ 4 ∷ 1 ∷ 7 ∷ []) accounts
+
+-- T at a slot number; c and q of place 0, then of place 1
+abbrev pub wordsT : (slot : ℕ) → (accounts : List ℕ) → List ℕ
+wordsT slot accounts = rated 1 slot accounts
+
+-- T with each credit b and nothing posted; the same from slot 0; and with three posted to each place
+abbrev pub freshAt : (slot : ℕ) → List ℕ
+freshAt slot = wordsT slot (8 ∷ 0 ∷ 4 ∷ 0 ∷ [])
+
+abbrev pub fresh : List ℕ
+fresh = freshAt 0
+
+abbrev pub threeEach : List ℕ
+threeEach = wordsT 0 (8 ∷ 3 ∷ 4 ∷ 3 ∷ [])
+
+-- T with a rate of two to the power 32, which no field holds
+abbrev pub wide : List ℕ
+wide = rated 4294967296 0 (8 ∷ 0 ∷ 4 ∷ 0 ∷ [])
+
+-- words that hold nothing of use
+abbrev pub unused : ℕ → List ℕ
+unused n = replicate n 90
+
+abbrev pub bytesT : (last : ℕ) → List ℕ
+bytesT last = 4 ∷ 2 ∷ 1 ∷ 8 ∷ 1 ∷ 4 ∷ 1 ∷ 4 ∷ 1 ∷ last ∷ []
+
+-- ---- rows
+
+pub data After : Type 0 where
+  stated-as : Stated → After
+  slotted-as : Slotted → After
+  ran-as : Ran → After
+  figured-as : Figured → After
+  led-as : Led → After
+  wrote-as : Wrote → After
+
+pub record Row : Type 0 where
+  pub asked : After
+  pub written : After
+
+abbrev pub starting : (bytes : List ℕ) (first : ℕ) (words : List ℕ) → (after : List ℕ) (outcome : ℕ) → Row
+starting bytes first words after o = record {
+  asked = stated-as (started maxPlaces bytes first words);
+  written = stated-as (record { words = after; outcome = o });
+}
+
+abbrev pub posting : (words : List ℕ) (place count : ℕ) → (after : List ℕ) (outcome : ℕ) → Row
+posting words p count after o = record {
+  asked = stated-as (posted maxPlaces words p count);
+  written = stated-as (record { words = after; outcome = o });
+}
+
+abbrev pub slotting : (words old : List ℕ) → (after answer : List ℕ) (outcome : ℕ) → Row
+slotting words old after answer o = record {
+  asked = slotted-as (slotted maxPlaces words old);
+  written = slotted-as (record { words = after; answer = answer; outcome = o });
+}
+
+abbrev pub running : (words log : List ℕ) → (after written : List ℕ) (outcome : ℕ) → Row
+running words log after bytes o = record {
+  asked = ran-as (ran maxPlaces words log);
+  written = ran-as (record { words = after; log = bytes; outcome = o });
+}
+
+abbrev pub figuring : (words : List ℕ) (place j : ℕ) (old : List ℕ) → (answer : List ℕ) (outcome : ℕ) → Row
+figuring words p j old answer o = record {
+  asked = figured-as (figured maxPlaces words p j old);
+  written = figured-as (record { answer = answer; outcome = o });
+}
+
+abbrev pub leading : (words : List ℕ) (place : ℕ) (log : List ℕ) (old : List ℤ) → (answer : List ℤ) (outcome : ℕ) → Row
+leading words p log old answer o = record {
+  asked = led-as (led maxPlaces words p log old);
+  written = led-as (record { answer = answer; outcome = o });
+}
+
+abbrev pub writing : (words buffer old : List ℕ) → (after answer : List ℕ) (outcome : ℕ) → Row
+writing words buffer old after answer o = record {
+  asked = wrote-as (wrote maxPlaces words buffer old);
+  written = wrote-as (record { buffer = after; answer = answer; outcome = o });
+}
+
+unfoldable pub rows : List Row
+rows =
+    -- a start writes T's words
+    starting (bytesT 7) 0 (unused (wordCount maxPlaces)) fresh 0
+    -- case 2: refused 7 at place 1 is 7 + 256 × 2; every word is 0. No bytes are refused 8, which names no place
+    ∷ starting (bytesT 6) 0 (unused (wordCount maxPlaces)) (replicate (wordCount maxPlaces) 0) 519
+    ∷ starting [] 0 (unused (wordCount maxPlaces)) (replicate (wordCount maxPlaces) 0) 8
+    -- one word fewer or more is 255, ahead of all else, and the words stay
+    ∷ starting (bytesT 7) 0 (unused (wordCount maxPlaces - 1)) (unused (wordCount maxPlaces - 1)) 255
+    ∷ starting [] 0 (unused (wordCount maxPlaces + 1)) (unused (wordCount maxPlaces + 1)) 255
+    -- case 3: three posted to each; place 2 is refused 11, and a backlog past its limit 21
+    ∷ posting fresh 0 3 (wordsT 0 (8 ∷ 3 ∷ 4 ∷ 0 ∷ [])) 0
+    ∷ posting (wordsT 0 (8 ∷ 3 ∷ 4 ∷ 0 ∷ [])) 1 3 threeEach 0
+    ∷ posting fresh 2 1 fresh 11
+    ∷ posting threeEach 1 65533 threeEach 21
+    ∷ posting (threeEach ++ 0 ∷ []) 0 0 (threeEach ++ 0 ∷ []) 255
+    -- granted in slot 0 to place 0, told as 1; idle with nothing waiting, told as 0; the last slot number is refused 22
+    ∷ slotting threeEach (90 ∷ 91 ∷ []) (wordsT 1 (5 ∷ 2 ∷ 5 ∷ 3 ∷ [])) (0 ∷ 1 ∷ []) 0
+    ∷ slotting (freshAt 7) (90 ∷ 91 ∷ []) (freshAt 8) (7 ∷ 0 ∷ []) 0
+    ∷ slotting (freshAt maxSlot) (90 ∷ 91 ∷ []) (freshAt maxSlot) (90 ∷ 91 ∷ []) 22
+    -- an answer of one word or of three is 255
+    ∷ slotting threeEach (90 ∷ []) threeEach (90 ∷ []) 255
+    ∷ slotting threeEach (90 ∷ 91 ∷ 92 ∷ []) threeEach (90 ∷ 91 ∷ 92 ∷ []) 255
+    -- a word that its field cannot hold is 23 in every call; 255 is ahead of 23
+    ∷ posting wide 0 0 wide 23
+    ∷ slotting wide (90 ∷ 91 ∷ []) wide (90 ∷ 91 ∷ []) 23
+    ∷ running wide (90 ∷ []) wide (90 ∷ []) 23
+    ∷ figuring wide 0 1 (90 ∷ 91 ∷ []) (90 ∷ 91 ∷ []) 23
+    ∷ leading wide 0 [] (pos 90 ∷ []) (pos 90 ∷ []) 23
+    ∷ writing wide (unused 10) (90 ∷ []) (unused 10) (90 ∷ []) 23
+    ∷ posting (wide ++ 0 ∷ []) 0 0 (wide ++ 0 ∷ []) 255
+    ∷ slotting wide (90 ∷ []) wide (90 ∷ []) 255
+    -- case 3's nine slots
+    ∷ running threeEach (unused 9) (wordsT 9 (5 ∷ 0 ∷ 1 ∷ 0 ∷ [])) (0 ∷ 0 ∷ 1 ∷ 0 ∷ 1 ∷ 255 ∷ 255 ∷ 1 ∷ 255 ∷ []) 0
+    -- the wait and the finish figure of place 1; no transfer is refused 5 at the place asked for, 5 + 256 × 2
+    ∷ figuring fresh 1 1 (90 ∷ 91 ∷ []) (3 ∷ 7 ∷ []) 0
+    ∷ figuring fresh 1 0 (90 ∷ 91 ∷ []) (90 ∷ 91 ∷ []) 517
+    -- case 5: over the first two bytes place 1 has −2
+    ∷ leading fresh 1 (0 ∷ 0 ∷ []) (pos 90 ∷ []) (negsuc 1 ∷ []) 0
+    ∷ leading fresh 2 (0 ∷ 0 ∷ []) (pos 90 ∷ []) (pos 90 ∷ []) 11
+    -- T's ten bytes, and what stands behind them stays; a buffer of nine is refused 14
+    ∷ writing fresh (unused 12) (91 ∷ []) (bytesT 7 ++ 90 ∷ 90 ∷ []) (10 ∷ []) 0
+    ∷ writing fresh (unused 9) (91 ∷ []) (unused 9) (91 ∷ []) 14
+    ∷ []
+
+abbrev pub All-pass : Type 0
+All-pass = map (λ r. r .asked) rows ≡ map (λ r. r .written) rows

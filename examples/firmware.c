@@ -1,0 +1,119 @@
+/*
+ * A firmware's main loop over the arbiter: the basin of README.md, whose table and posts stand in basin.hex too.
+ *
+ * The loop is the one that a unit runs for ever, cut off after 25 slots: hand in what has fallen due, do a slot, and give the line
+ * to whoever was granted.
+ */
+#include <stdio.h>
+
+#include "justrave.h"
+
+#define PLACES 5
+#define SLOTS 25
+
+enum { PUMP, PH_PROBE, CHLORINE_PROBE, HANDSET, SERVICE_LOG };
+
+static const char *const who[PLACES] = {"pump", "pH probe", "chlorine probe", "handset", "service log"};
+
+/* D, N, and for each place rate, burst, and the need's j and L; 160 takes two bytes */
+static const uint8_t table[] = {
+    20, 5,
+    4, 40, 2, 10,
+    2, 20, 1, 15,
+    2, 20, 1, 15,
+    4, 60, 3, 25,
+    8, 0xA0, 0x01, 8, 50,
+};
+
+/* What falls due before which slot. A real unit has its interrupts here. */
+static const struct {
+    uint64_t slot;
+    size_t place;
+    uint32_t transfers;
+} due[] = {
+    {0, SERVICE_LOG, 14}, {3, PUMP, 2}, {3, PH_PROBE, 1}, {3, CHLORINE_PROBE, 1},
+    {3, HANDSET, 3},      {9, PUMP, 1}, {9, PH_PROBE, 1}, {12, CHLORINE_PROBE, 1},
+};
+
+/* The state is the caller's: no heap, and nothing hidden in the library. */
+static uint64_t state[JUSTRAVE_STATE_WORDS];
+
+/* Says what a call was refused with, and answers whether it was. */
+static int refused(const char *call, uint64_t outcome)
+{
+    if (outcome == JUSTRAVE_ACCEPTED) {
+        return 0;
+    }
+    printf("%s: refused %d", call, JUSTRAVE_NUMBER(outcome));
+    if (JUSTRAVE_NAMES_PLACE(outcome)) {
+        printf(" at place %zu", JUSTRAVE_PLACE(outcome));
+    }
+    printf(", caused by the %s\n", JUSTRAVE_CAUSED_BY_STATE(outcome) ? "state" : "input");
+    return 1;
+}
+
+/* Posts what falls due before a slot. A refused post changes nothing, so the loop can go on after it. */
+static void post_due(uint64_t slot)
+{
+    for (size_t i = 0; i < sizeof due / sizeof due[0]; i++) {
+        if (due[i].slot == slot) {
+            refused("post", justrave_post(state, JUSTRAVE_STATE_WORDS, due[i].place, due[i].transfers));
+        }
+    }
+}
+
+/* One turn of the main loop; answers whether there is a next one. */
+static int turn(uint64_t slot)
+{
+    uint64_t answer[JUSTRAVE_SLOT_ANSWER];
+
+    post_due(slot);
+    if (refused("slot", justrave_slot(state, JUSTRAVE_STATE_WORDS, answer, JUSTRAVE_SLOT_ANSWER))) {
+        return 0;
+    }
+    printf("%llu %s\n", (unsigned long long)JUSTRAVE_STAMP(answer),
+           JUSTRAVE_IS_GRANTED(answer) ? who[JUSTRAVE_GRANTED(answer)] : "-");
+    return 1;
+}
+
+/* What an attendant may count on: the handset's three transfers, from asking to the last grant. */
+static void tell_handset(void)
+{
+    uint64_t answer[JUSTRAVE_FIGURES_ANSWER];
+
+    if (!refused("figures", justrave_figures(state, JUSTRAVE_STATE_WORDS, HANDSET, 3, answer, JUSTRAVE_FIGURES_ANSWER))) {
+        printf("handset: waits %llu slots at most, 3 transfers are done within %llu\n", (unsigned long long)answer[0],
+               (unsigned long long)answer[1]);
+    }
+}
+
+/* What bad input gets: a number, and nothing changes. */
+static void show_refusals(void)
+{
+    uint64_t other[JUSTRAVE_STATE_WORDS];
+    uint8_t hasty[sizeof table];
+
+    refused("post", justrave_post(state, JUSTRAVE_STATE_WORDS, PLACES, 1));
+    refused("post", justrave_post(state, JUSTRAVE_STATE_WORDS, PUMP, 65536));
+    for (size_t i = 0; i < sizeof table; i++) {
+        hasty[i] = table[i];
+    }
+    hasty[5] = 9; /* the pump's two transfers within 9 slots: its finish figure is 10 */
+    refused("start", justrave_start(hasty, sizeof hasty, 0, other, JUSTRAVE_STATE_WORDS));
+}
+
+int main(void)
+{
+    if (justrave_state_words() != JUSTRAVE_STATE_WORDS) {
+        printf("header and library do not fit: a state has %zu words\n", justrave_state_words());
+        return 1;
+    }
+    if (refused("start", justrave_start(table, sizeof table, 0, state, JUSTRAVE_STATE_WORDS))) {
+        return 1;
+    }
+    tell_handset();
+    for (uint64_t slot = 0; slot < SLOTS && turn(slot); slot++) {
+    }
+    show_refusals();
+    return 0;
+}

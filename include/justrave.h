@@ -1,0 +1,154 @@
+/*
+ * Justrave: the arbiter of a dosing unit's field line, for firmware in C.
+ *
+ * Link target/staticlib/libboundary.a, which `rt staticlib boundary` proves and builds (x86-64). It needs no heap, no set-up and of
+ * the C library at most memcpy and memset, and keeps nothing between two calls: all there is of an arbiter is the state that the
+ * caller lends.
+ *
+ * A state is JUSTRAVE_STATE_WORDS words of 64 bits. They are the library's own; nothing but these functions should write them. They
+ * are plain data: they may be copied, compared, and kept over a power cut, in a copy that was made between two calls. Words that
+ * were damaged meanwhile are refused (JUSTRAVE_BROKEN_STATE) wherever they break a rule of the arbiter's state.
+ *
+ * What the caller owes, since C cannot say it in a type:
+ * - a pointer is not NULL, is aligned for its type, and has as many elements behind it as its length says. With length 0 nothing
+ *   is read or written behind it;
+ * - memory that is lent for writing overlaps no other memory of the same call;
+ * - while a call runs nobody else writes its memory, and nobody else reads what is lent to it for writing.
+ *
+ * Nothing else is asked. Any number, any bytes and any words may be handed in: every call has an answer.
+ */
+#ifndef JUSTRAVE_H
+#define JUSTRAVE_H
+
+#include <stddef.h>
+#include <stdint.h>
+
+#ifdef __cplusplus
+extern "C" {
+#endif
+
+/*
+ * How many words a state has; a macro, so that a state can be declared without a heap. justrave_state_words() is the library's own
+ * count. If the two differ, header and library are of different versions, and every call is refused JUSTRAVE_LENGTH.
+ */
+#define JUSTRAVE_STATE_WORDS 99
+
+/* How many words, or for the lead how many signed numbers, each answer has. */
+#define JUSTRAVE_SLOT_ANSWER 2
+#define JUSTRAVE_FIGURES_ANSWER 2
+#define JUSTRAVE_LEAD_ANSWER 1
+#define JUSTRAVE_WRITE_ANSWER 1
+
+/* What a run writes into its log for a slot in which nobody was granted. */
+#define JUSTRAVE_LOG_IDLE 255
+
+/* The longest log, in bytes, and so the most slots of one run. */
+#define JUSTRAVE_MAX_LOG 65536
+
+/* Room for the bytes of any table: 3 and 1 for D and N, and 3, 4, 2, 5 for each of 16 places. */
+#define JUSTRAVE_TABLE_ROOM 228
+
+/* The highest slot number, two to the power 62: no slot is done at it. */
+#define JUSTRAVE_MAX_SLOT ((uint64_t)1 << 62)
+
+/*
+ * An outcome, which every call but justrave_state_words returns. 0 is accepted. Any other is a refusal: the number of document 01
+ * in its low 8 bits, and above them the place that the refusal names, plus 1, or 0 if it names none.
+ *
+ * A refused call changes nothing: the state, the log, the buffer and the answer are what they were. Only a start that is refused
+ * for its table or its slot number writes: it sets every word of the state to 0.
+ */
+enum {
+    JUSTRAVE_ACCEPTED = 0,
+
+    /* caused by the input */
+    JUSTRAVE_DENOMINATOR = 1,  /* D is not 1 to 65,535 */
+    JUSTRAVE_PLACES = 2,       /* N is not 1 to 16 */
+    JUSTRAVE_RATE = 3,         /* a rate is not 1 to D; names the place */
+    JUSTRAVE_BURST = 4,        /* a burst is not D to 16,777,216; names the place */
+    JUSTRAVE_NEED = 5,         /* a need's j is not 1 to 255, or its L not 1 to 1,073,741,824; names the place */
+    JUSTRAVE_RATE_SUM = 6,     /* the rates sum to more than D */
+    JUSTRAVE_FINISH = 7,       /* a finish figure is above its need's L; names the lowest such place */
+    JUSTRAVE_ENDED = 8,        /* the bytes end inside or before a number */
+    JUSTRAVE_MALFORMED = 9,    /* a number is too large, has a fifth byte with its top bit set, or is not in shortest form */
+    JUSTRAVE_BYTES_LEFT = 10,  /* bytes are left after the last place */
+    JUSTRAVE_NO_SUCH_PLACE = 11, /* the place is not below N */
+    JUSTRAVE_FIRST_SLOT = 12,  /* the first slot number is above JUSTRAVE_MAX_SLOT */
+    JUSTRAVE_LOG_LENGTH = 13,  /* the log is longer than JUSTRAVE_MAX_LOG bytes */
+    JUSTRAVE_BUFFER = 14,      /* the lent buffer is shorter than the table's bytes */
+
+    /* caused by the state */
+    JUSTRAVE_BACKLOG = 21,     /* the post would carry the backlog above 65,535 */
+    JUSTRAVE_SLOT_LIMIT = 22,  /* the slot number stands at its limit; for a run, it would pass it */
+    JUSTRAVE_BROKEN_STATE = 23, /* a word fits no field, or the state breaks a rule: no accepted start and calls lead to it */
+
+    /* of the boundary itself, caused by the input and tested before all else: a lent state or answer has not the right length */
+    JUSTRAVE_LENGTH = 255
+};
+
+/* The number of an outcome: one of the names above. */
+#define JUSTRAVE_NUMBER(outcome) ((int)((uint64_t)(outcome) & 255))
+
+/* Whether an outcome names a place, and which. JUSTRAVE_PLACE means something only if JUSTRAVE_NAMES_PLACE holds. */
+#define JUSTRAVE_NAMES_PLACE(outcome) (((uint64_t)(outcome) >> 8) != 0)
+#define JUSTRAVE_PLACE(outcome) ((size_t)(((uint64_t)(outcome) >> 8) - 1))
+
+/* Whether a refusal was caused by the state (21 to 29) or else by the input. */
+#define JUSTRAVE_CAUSED_BY_STATE(outcome) ((unsigned)JUSTRAVE_NUMBER(outcome) - 21u <= 8u)
+
+/* Of the answer of an accepted slot: its stamp, whether a place was granted, and which. */
+#define JUSTRAVE_STAMP(answer) ((answer)[0])
+#define JUSTRAVE_IS_GRANTED(answer) ((answer)[1] != 0)
+#define JUSTRAVE_GRANTED(answer) ((size_t)((answer)[1] - 1))
+
+/* How many words a state has. */
+size_t justrave_state_words(void);
+
+/*
+ * Reads a table's bytes and makes a state that stands at slot number `first`: every credit is its burst, every backlog 0. The words
+ * may hold anything before. Refused 255, then 8, 9 and 1 to 5 number by number, then 10, 6, 7, then 12; the words are then all 0,
+ * but for 255, which changes nothing.
+ */
+uint64_t justrave_start(const uint8_t *table, size_t table_length, uint64_t first, uint64_t *state, size_t state_length);
+
+/* Adds `count` transfers (0 is allowed) to a place's backlog. Refused 255, 23, 11, 21. */
+uint64_t justrave_post(uint64_t *state, size_t state_length, size_t place, uint32_t count);
+
+/*
+ * Does one slot. The answer is the slot's stamp, and the place that was granted plus 1, or 0 if the slot is idle. Refused 255, 23,
+ * 22; a refused slot uses no stamp up.
+ */
+uint64_t justrave_slot(uint64_t *state, size_t state_length, uint64_t *answer, size_t answer_length);
+
+/*
+ * Does as many slots as the log has bytes, and writes for each the place that was granted, or JUSTRAVE_LOG_IDLE. An empty log means
+ * no slot. Refused 255, 23, 13, 22.
+ */
+uint64_t justrave_run(uint64_t *state, size_t state_length, uint8_t *log, size_t log_length);
+
+/*
+ * Answers a place's wait in slots, rounded up, for which the places above can hold it back, and its finish figure: `transfers` of them, 1 to 255, that wait together are all
+ * granted within so many slots. Refused 255, 23, 11, 5.
+ */
+uint64_t justrave_figures(const uint64_t *state, size_t state_length, size_t place, uint32_t transfers, uint64_t *answer,
+                          size_t answer_length);
+
+/*
+ * Answers the lead of a place over a log: D times the log's bytes that are the place, less its rate times the log's length. Below
+ * 0 the place has fallen behind its rate. Refused 255, 23, 11, 13.
+ */
+uint64_t justrave_lead(const uint64_t *state, size_t state_length, size_t place, const uint8_t *log, size_t log_length,
+                       int64_t *answer, size_t answer_length);
+
+/*
+ * Writes the bytes of the state's table to the buffer's start, and leaves the rest of the buffer. The answer is how many bytes they
+ * are; JUSTRAVE_TABLE_ROOM is always enough. Refused 255, 23, 7, 14.
+ */
+uint64_t justrave_write(const uint64_t *state, size_t state_length, uint8_t *buffer, size_t buffer_length, uint64_t *answer,
+                        size_t answer_length);
+
+#ifdef __cplusplus
+}
+#endif
+
+#endif

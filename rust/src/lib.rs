@@ -1,0 +1,40 @@
+//! The arbiter of a dosing unit's field line.
+//!
+//! Time on the line is cut into **slots**, and a slot carries at most one **transfer**. The arbiter says, slot by slot, whose
+//! transfer goes next. Each requestor has a place, 0 the most urgent, with a rate, a burst and a need; the table of them is
+//! given as bytes. What the arbiter answers is proved; this crate is the safe door to it for Rust, and holds no rule of its own.
+//!
+//! ```
+//! use justrave::{Arbiter, SlotAnswer, Slots, Transfers};
+//!
+//! // D = 4 and two places: rate 1, burst 8, one transfer within 4 slots; rate 1, burst 4, one within 7
+//! let table = [4, 2, 1, 8, 1, 4, 1, 4, 1, 7];
+//! let mut line = Arbiter::start(&table, Slots(0))?;
+//!
+//! line.post(1, Transfers(1))?;
+//! assert_eq!(line.slot()?, SlotAnswer::Granted(Slots(0), 1));
+//! assert_eq!(line.slot()?, SlotAnswer::Idle(Slots(1)));
+//! # Ok::<(), justrave::Refusal>(())
+//! ```
+//!
+//! A call that is turned down changes nothing and says why with a number, with the place where one place is at fault, and with
+//! what caused it, the call's own input or the state ([`Refusal`]).
+//!
+//! # Linking
+//!
+//! The library is `libboundary.a`, which `rt staticlib boundary` proves and builds. The build script looks for it in the
+//! repository's `target/staticlib`, or in the folder that the environment variable `JUSTRAVE_LIB_DIR` names.
+//!
+//! No heap is used and no standard library: an [`Arbiter`] is [`Arbiter::STATE_WORDS`] words of its owner's memory.
+
+#![no_std]
+#![warn(missing_docs)]
+
+mod arbiter;
+mod refusal;
+pub mod sys;
+mod units;
+
+pub use arbiter::{Arbiter, Figures, SlotAnswer};
+pub use refusal::{Cause, Refusal};
+pub use units::{Slots, Transfers};

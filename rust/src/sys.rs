@@ -1,0 +1,53 @@
+//! The library's functions as it exports them. `include/justrave.h` says what each does and what a caller owes; [`crate::Arbiter`]
+//! sees to it that nothing is owed.
+//!
+//! A slice crosses as a pointer and a length. A pointer is never null, even where the length is 0, and memory that is lent for
+//! writing overlaps no other memory of the same call.
+
+#![allow(missing_docs)]
+
+extern "C" {
+    pub fn justrave_state_words() -> usize;
+
+    pub fn justrave_start(
+        table: *const u8,
+        table_length: usize,
+        first: u64,
+        state: *mut u64,
+        state_length: usize,
+    ) -> u64;
+
+    pub fn justrave_post(state: *mut u64, state_length: usize, place: usize, count: u32) -> u64;
+
+    pub fn justrave_slot(state: *mut u64, state_length: usize, answer: *mut u64, answer_length: usize) -> u64;
+
+    pub fn justrave_run(state: *mut u64, state_length: usize, log: *mut u8, log_length: usize) -> u64;
+
+    pub fn justrave_figures(
+        state: *const u64,
+        state_length: usize,
+        place: usize,
+        transfers: u32,
+        answer: *mut u64,
+        answer_length: usize,
+    ) -> u64;
+
+    pub fn justrave_lead(
+        state: *const u64,
+        state_length: usize,
+        place: usize,
+        log: *const u8,
+        log_length: usize,
+        answer: *mut i64,
+        answer_length: usize,
+    ) -> u64;
+
+    pub fn justrave_write(
+        state: *const u64,
+        state_length: usize,
+        buffer: *mut u8,
+        buffer_length: usize,
+        answer: *mut u64,
+        answer_length: usize,
+    ) -> u64;
+}

@@ -1,0 +1,78 @@
+//! A table's bytes: numbers in groups of seven bits, lowest group first.
+
+use super::table::{check_burst, check_count, check_denominator, check_need, check_rate, check_within};
+use super::{pass, Fault, Requestor, Table};
+
+/// The bytes that are still to be read.
+struct Reader<'a>(&'a [u8]);
+
+impl Reader<'_> {
+    fn byte(&mut self) -> Result<u8, Fault> {
+        let (&first, rest) = self.0.split_first().ok_or(Fault { number: 8, place: None })?;
+        self.0 = rest;
+        Ok(first)
+    }
+
+    /// At most five groups; the last has no top bit, and is 0 only where it stands alone.
+    fn number(&mut self) -> Result<u64, Fault> {
+        let mut number = 0;
+        for group in 0..5 {
+            let byte = self.byte()?;
+            number |= u64::from(byte & 0x7F) << (7 * group);
+            if byte & 0x80 == 0 {
+                let shortest = byte != 0 || group == 0;
+                return pass(shortest && number <= 4_294_967_295, 9).map(|()| number);
+            }
+        }
+        Err(Fault { number: 9, place: None })
+    }
+
+    /// A number that is checked before the next one is read.
+    fn checked(&mut self, check: impl Fn(u64) -> Result<(), Fault>) -> Result<u64, Fault> {
+        let number = self.number()?;
+        check(number).map(|()| number)
+    }
+
+    fn requestor(&mut self, denominator: u64, place: usize) -> Result<Requestor, Fault> {
+        Ok(Requestor {
+            rate: self.checked(|rate| check_rate(rate, denominator, place))?,
+            burst: self.checked(|burst| check_burst(burst, denominator, place))?,
+            need: self.checked(|need| check_need(need, place))?,
+            within: self.checked(|within| check_within(within, place))?,
+        })
+    }
+}
+
+impl Table {
+    /// An accepted table from its bytes.
+    pub fn read(bytes: &[u8]) -> Result<Table, Fault> {
+        let mut reader = Reader(bytes);
+        let mut table = Table { denominator: reader.checked(check_denominator)?, ..Table::default() };
+        table.count = reader.checked(check_count)?;
+        for place in 0..table.count as usize {
+            table.requestors[place] = reader.requestor(table.denominator, place)?;
+        }
+        pass(reader.0.is_empty(), 10)?;
+        table.check_rate_sum()?;
+        table.check_finishes()?;
+        Ok(table)
+    }
+
+    /// The bytes of a table whose N is within its limits.
+    pub fn bytes(&self) -> Vec<u8> {
+        let rows = self.used().iter().flat_map(|row| [row.rate, row.burst, row.need, row.within]);
+        [self.denominator, self.count].into_iter().chain(rows).flat_map(number_bytes).collect()
+    }
+}
+
+/// A number in its shortest form.
+pub fn number_bytes(number: u64) -> Vec<u8> {
+    let mut bytes = Vec::new();
+    let mut left = number;
+    while left >= 0x80 {
+        bytes.push((left & 0x7F) as u8 | 0x80);
+        left >>= 7;
+    }
+    bytes.push(left as u8);
+    bytes
+}

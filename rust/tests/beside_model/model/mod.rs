@@ -1,0 +1,37 @@
+//! A second arbiter in plain Rust, written from document 01 and from nothing else: the product's answers are held to it, and its
+//! time is measured beside the product's. All numbers are u64.
+
+mod bytes;
+mod calls;
+mod table;
+
+pub use bytes::number_bytes;
+pub use calls::{Account, State};
+pub use table::{Requestor, Table, PLACES};
+
+/// Two to the power 62.
+pub const MAX_SLOT: u64 = 4_611_686_018_427_387_904;
+pub const MAX_BACKLOG: u64 = 65_535;
+pub const MAX_LOG: usize = 65_536;
+pub const IDLE: u8 = 255;
+
+/// Document 01's number of a refusal, and the place where it names one.
+#[derive(Clone, Copy, Debug, PartialEq, Eq)]
+pub struct Fault {
+    pub number: u8,
+    pub place: Option<usize>,
+}
+
+/// A check without a place: passed, or refused with this number.
+fn pass(passed: bool, number: u8) -> Result<(), Fault> {
+    pass_at(passed, number, None)
+}
+
+/// A check that may name a place.
+fn pass_at(passed: bool, number: u8, place: Option<usize>) -> Result<(), Fault> {
+    if passed {
+        Ok(())
+    } else {
+        Err(Fault { number, place })
+    }
+}

@@ -1,0 +1,105 @@
+//! The table, its limits and its checks, and the figures that are read off it.
+
+use super::{pass, pass_at, Fault};
+
+pub const PLACES: usize = 16;
+
+#[derive(Clone, Copy, Debug, Default, PartialEq, Eq)]
+pub struct Requestor {
+    pub rate: u64,
+    pub burst: u64,
+    pub need: u64,
+    pub within: u64,
+}
+
+/// A table, sound or not: any number may stand in any field.
+#[derive(Clone, Copy, Debug, Default, PartialEq, Eq)]
+pub struct Table {
+    pub denominator: u64,
+    pub count: u64,
+    pub requestors: [Requestor; PLACES],
+}
+
+pub fn check_denominator(denominator: u64) -> Result<(), Fault> {
+    pass((1..=65_535).contains(&denominator), 1)
+}
+
+pub fn check_count(count: u64) -> Result<(), Fault> {
+    pass((1..=16).contains(&count), 2)
+}
+
+pub fn check_rate(rate: u64, denominator: u64, place: usize) -> Result<(), Fault> {
+    pass_at((1..=denominator).contains(&rate), 3, Some(place))
+}
+
+pub fn check_burst(burst: u64, denominator: u64, place: usize) -> Result<(), Fault> {
+    pass_at((denominator..=16_777_216).contains(&burst), 4, Some(place))
+}
+
+pub fn check_need(need: u64, place: usize) -> Result<(), Fault> {
+    pass_at((1..=255).contains(&need), 5, Some(place))
+}
+
+pub fn check_within(within: u64, place: usize) -> Result<(), Fault> {
+    pass_at((1..=1_073_741_824).contains(&within), 5, Some(place))
+}
+
+impl Requestor {
+    fn check(&self, denominator: u64, place: usize) -> Result<(), Fault> {
+        check_rate(self.rate, denominator, place)?;
+        check_burst(self.burst, denominator, place)?;
+        check_need(self.need, place)?;
+        check_within(self.within, place)
+    }
+}
+
+impl Table {
+    /// The requestors of places 0 to N - 1, in a table whose N is within its limits.
+    pub fn used(&self) -> &[Requestor] {
+        &self.requestors[..self.count as usize]
+    }
+
+    /// 1 to 6, in the order for a table given as numbers.
+    pub fn check_numbers(&self) -> Result<(), Fault> {
+        check_denominator(self.denominator)?;
+        check_count(self.count)?;
+        pass(self.requestors[self.count as usize..].iter().all(|past| *past == Requestor::default()), 2)?;
+        for (place, requestor) in self.used().iter().enumerate() {
+            requestor.check(self.denominator, place)?;
+        }
+        self.check_rate_sum()
+    }
+
+    /// 6.
+    pub fn check_rate_sum(&self) -> Result<(), Fault> {
+        pass(self.used().iter().map(|requestor| requestor.rate).sum::<u64>() <= self.denominator, 6)
+    }
+
+    /// 7, of a table that passed 1 to 6.
+    pub fn check_finishes(&self) -> Result<(), Fault> {
+        for (place, requestor) in self.used().iter().enumerate() {
+            pass_at(self.finish(place, requestor.need) <= requestor.within, 7, Some(place))?;
+        }
+        Ok(())
+    }
+
+    /// B of a place: the bursts above it.
+    pub fn bursts_above(&self, place: usize) -> u64 {
+        self.requestors[..place].iter().map(|above| above.burst).sum()
+    }
+
+    /// R of a place: what the rates above it leave of D.
+    pub fn rate_left(&self, place: usize) -> u64 {
+        self.denominator - self.requestors[..place].iter().map(|above| above.rate).sum::<u64>()
+    }
+
+    /// The wait as it is reported.
+    pub fn wait(&self, place: usize) -> u64 {
+        self.bursts_above(place).div_ceil(self.rate_left(place))
+    }
+
+    /// The finish figure for so many transfers.
+    pub fn finish(&self, place: usize, transfers: u64) -> u64 {
+        self.wait(place) + (transfers * self.denominator).div_ceil(self.requestors[place].rate)
+    }
+}

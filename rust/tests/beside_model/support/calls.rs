@@ -1,0 +1,160 @@
+//! Generated calls, made on the product and on the model, and what each of the two told.
+
+use justrave::{Arbiter, Cause, Refusal, SlotAnswer, Transfers};
+
+use super::chance::Chance;
+use super::words::{words_of, Words};
+use crate::model::{Fault, State, IDLE, MAX_BACKLOG, MAX_LOG, MAX_SLOT, PLACES};
+
+#[derive(Clone, Debug)]
+pub enum Call {
+    Post(usize, u32),
+    Slot,
+    /// The log's length.
+    Run(usize),
+    Figures(usize, u32),
+    Lead(usize, Vec<u8>),
+    /// The buffer's length.
+    Write(usize),
+}
+
+/// A refusal's number, its place, and whether the state caused it.
+pub type Turned = (u8, Option<usize>, bool);
+
+/// All that a call leaves behind: its numbers or its refusal, the lent bytes and the state's words.
+#[derive(Debug, PartialEq)]
+pub struct Told {
+    pub answer: Result<Vec<i64>, Turned>,
+    pub lent: Vec<u8>,
+    pub words: Words,
+}
+
+/// What stands in lent bytes before a call, so that a byte that was written shows.
+const UNTOUCHED: u8 = 0xA5;
+
+impl Call {
+    pub fn name(&self) -> &'static str {
+        match self {
+            Call::Post(..) => "post",
+            Call::Slot => "slot",
+            Call::Run(..) => "run",
+            Call::Figures(..) => "figures",
+            Call::Lead(..) => "lead",
+            Call::Write(..) => "write",
+        }
+    }
+
+    fn lent(&self) -> Vec<u8> {
+        match *self {
+            Call::Run(length) | Call::Write(length) => vec![UNTOUCHED; length],
+            _ => Vec::new(),
+        }
+    }
+
+    pub fn on_product(&self, arbiter: &mut Arbiter) -> Told {
+        let mut lent = self.lent();
+        let answer = match self {
+            Call::Post(place, count) => arbiter.post(*place, Transfers(*count)).map(|()| vec![]),
+            Call::Slot => arbiter.slot().map(slot_numbers),
+            Call::Run(_) => arbiter.run(&mut lent).map(|()| vec![]),
+            Call::Figures(place, transfers) => arbiter
+                .figures(*place, Transfers(*transfers))
+                .map(|figures| vec![figures.wait.0 as i64, figures.finish.0 as i64]),
+            Call::Lead(place, log) => arbiter.lead(*place, log).map(|lead| vec![lead]),
+            Call::Write(_) => arbiter.write_table(&mut lent).map(|length| vec![length as i64]),
+        };
+        Told { answer: answer.map_err(turned_by_product), lent, words: *arbiter.words() }
+    }
+
+    pub fn on_model(&self, state: &mut State) -> Told {
+        let mut lent = self.lent();
+        let answer = match self {
+            Call::Post(place, count) => state.post(*place, u64::from(*count)).map(|()| vec![]),
+            Call::Slot => state.slot().map(|(stamp, granted)| vec![stamp as i64, granted.map_or(-1, |p| p as i64)]),
+            Call::Run(_) => state.run(&mut lent).map(|()| vec![]),
+            Call::Figures(place, transfers) => {
+                state.figures(*place, u64::from(*transfers)).map(|(wait, finish)| vec![wait as i64, finish as i64])
+            }
+            Call::Lead(place, log) => state.lead(*place, log).map(|lead| vec![lead]),
+            Call::Write(_) => state.write_table(&mut lent).map(|length| vec![length as i64]),
+        };
+        Told { answer: answer.map_err(turned_by_model), lent, words: words_of(state) }
+    }
+}
+
+/// Stamp and place, or -1 for idle.
+fn slot_numbers(answer: SlotAnswer) -> Vec<i64> {
+    match answer {
+        SlotAnswer::Granted(stamp, place) => vec![stamp.0 as i64, place as i64],
+        SlotAnswer::Idle(stamp) => vec![stamp.0 as i64, -1],
+    }
+}
+
+pub fn turned_by_product(refusal: Refusal) -> Turned {
+    (refusal.number, refusal.place, refusal.cause == Cause::State)
+}
+
+/// Document 01: 21 to 29 are caused by the state, all others by the input.
+pub fn turned_by_model(fault: Fault) -> Turned {
+    (fault.number, fault.place, (21..=29).contains(&fault.number))
+}
+
+/// A call of any kind, with places and counts on both sides of their limits.
+pub fn any(chance: &mut Chance, state: &State) -> Call {
+    match chance.within(0, 9) {
+        0..=2 => Call::Post(place(chance, state), count(chance, state)),
+        3..=5 => Call::Slot,
+        6 => Call::Run(run_length(chance, state)),
+        7 => Call::Figures(place(chance, state), transfers(chance)),
+        8 => Call::Lead(place(chance, state), log(chance)),
+        _ => Call::Write(buffer_length(chance, state)),
+    }
+}
+
+/// Mostly a place of the table; else one just beyond, or one whose low bits would do.
+pub fn place(chance: &mut Chance, state: &State) -> usize {
+    let count = state.table.count.clamp(1, PLACES as u64) as usize;
+    let inside = chance.index(count);
+    match chance.within(0, 9) {
+        0 => chance.pick(&[count, 15, 16, 17, 255, 256 + inside, inside + (1 << 32), usize::MAX]),
+        _ => inside,
+    }
+}
+
+/// Mostly a few; else just what fits the first place's backlog, one more, or far too many.
+pub fn count(chance: &mut Chance, state: &State) -> u32 {
+    let room = MAX_BACKLOG.saturating_sub(state.accounts[0].backlog) as u32;
+    match chance.within(0, 9) {
+        0 => chance.pick(&[room, room + 1, 65_535, 65_536, 65_537, u32::MAX]),
+        _ => chance.within(0, 6) as u32,
+    }
+}
+
+/// Mostly short; else just up to the last slot number, one more, or as long as a log may be, and longer.
+fn run_length(chance: &mut Chance, state: &State) -> usize {
+    let left = MAX_SLOT.saturating_sub(state.slot).min(100) as usize;
+    match chance.within(0, 99) {
+        0 => chance.pick(&[MAX_LOG, MAX_LOG + 1]),
+        1..=9 => chance.pick(&[left, left + 1]),
+        _ => chance.index(40),
+    }
+}
+
+fn transfers(chance: &mut Chance) -> u32 {
+    chance.pick(&[0, 1, 1, 2, 3, 17, 254, 255, 255, 256, 257, u32::MAX])
+}
+
+/// Places and idle slots by chance; sometimes as long as a log may be, and longer.
+fn log(chance: &mut Chance) -> Vec<u8> {
+    let length = match chance.within(0, 49) {
+        0 => chance.pick(&[MAX_LOG, MAX_LOG + 1]),
+        _ => chance.index(60),
+    };
+    (0..length).map(|_| if chance.one_in(4) { IDLE } else { chance.index(PLACES) as u8 }).collect()
+}
+
+fn buffer_length(chance: &mut Chance, state: &State) -> usize {
+    let count = state.table.count.min(PLACES as u64);
+    let needed = crate::model::Table { count, ..state.table }.bytes().len();
+    chance.pick(&[needed, needed, needed - 1, needed + 7, 0, Arbiter::TABLE_ROOM])
+}

@@ -1,0 +1,59 @@
+//! Generated states: sound ones that no start made, and damaged words.
+
+use super::chance::Chance;
+use super::tables;
+use super::words::Words;
+use crate::model::{State, MAX_BACKLOG, MAX_SLOT};
+
+/// A slot number, often near its limit.
+pub fn first_slot(chance: &mut Chance) -> u64 {
+    match chance.within(0, 3) {
+        0 => 0,
+        1 => chance.within(0, MAX_SLOT),
+        2 => MAX_SLOT - chance.within(0, 40),
+        _ => chance.within(0, 1 << 33),
+    }
+}
+
+/// A sound state that most likely no calls lead to: credits are moved downward in the table, and a need may be out of reach.
+pub fn invented(chance: &mut Chance) -> State {
+    let table = tables::accepted(chance);
+    let mut state = State { table, slot: first_slot(chance), ..State::default() };
+    let mut room = 0;
+    for place in 0..table.count as usize {
+        room += table.requestors[place].burst;
+        let most = chance.pick(&[0, room, room.min(2 * table.denominator)]);
+        state.accounts[place].credit = chance.within(0, most);
+        room -= state.accounts[place].credit;
+        state.accounts[place].backlog = backlog(chance);
+    }
+    if chance.one_in(3) {
+        let place = chance.index(table.count as usize);
+        state.table.requestors[place].within = chance.within(1, table.requestors[place].within);
+    }
+    state
+}
+
+fn backlog(chance: &mut Chance) -> u64 {
+    let most = chance.pick(&[0, 1, 3, 40, MAX_BACKLOG]);
+    MAX_BACKLOG.min(chance.within(0, most) + chance.pick(&[0, 0, 0, MAX_BACKLOG - 2]))
+}
+
+/// Changes up to three words, each to a number beside the old one or at an edge of a field.
+pub fn damage(chance: &mut Chance, words: &mut Words) {
+    for _ in 0..chance.pick(&[1, 1, 1, 2, 3]) {
+        let at = chance.index(words.len());
+        words[at] = edge(chance, words[at]);
+    }
+}
+
+fn edge(chance: &mut Chance, word: u64) -> u64 {
+    let beside = [word.wrapping_add(1), word.wrapping_sub(1), word.wrapping_add(1 << 32), word | 1 << 63];
+    let edges = [0, 1, 16, 17, 255, 256, 65_535, 65_536, 16_777_216, 16_777_217, 1 << 30, (1 << 30) + 1];
+    let large = [u64::from(u32::MAX), 1 << 32, MAX_SLOT - 1, MAX_SLOT, MAX_SLOT + 1, 1 << 63, u64::MAX];
+    match chance.within(0, 3) {
+        0 | 1 => chance.pick(&beside),
+        2 => chance.pick(&edges),
+        _ => chance.pick(&large),
+    }
+}

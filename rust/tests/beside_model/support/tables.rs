@@ -1,0 +1,165 @@
+//! Generated tables and their bytes: accepted ones, ones with numbers that are out of their limits, and damaged bytes.
+
+use super::chance::Chance;
+use crate::model::{Requestor, Table, PLACES};
+
+/// A table that is accepted.
+pub fn accepted(chance: &mut Chance) -> Table {
+    let mut table = Table { count: count(chance), ..Table::default() };
+    table.denominator = denominator(chance, table.count);
+    let rates = rates(chance, table.denominator, table.count);
+    for (row, rate) in table.requestors.iter_mut().zip(rates) {
+        *row = Requestor { rate, burst: burst(chance, table.denominator), need: need(chance), within: 1 };
+    }
+    for place in 0..table.count as usize {
+        table.requestors[place].within = within(chance, table.finish(place, table.requestors[place].need));
+    }
+    table
+}
+
+/// A small table whose needs are as tight as they may be: its bounds bite within a hundred slots.
+pub fn tight(chance: &mut Chance) -> Table {
+    let count = chance.within(1, 5);
+    let mut table = Table { denominator: chance.within(count, 24), count, ..Table::default() };
+    let rates = rates(chance, table.denominator, count);
+    for (row, rate) in table.requestors.iter_mut().zip(rates) {
+        let burst = chance.within(table.denominator, 3 * table.denominator);
+        *row = Requestor { rate, burst, need: chance.within(1, 4), within: 1 };
+    }
+    for place in 0..count as usize {
+        table.requestors[place].within = table.finish(place, table.requestors[place].need);
+    }
+    table
+}
+
+fn count(chance: &mut Chance) -> u64 {
+    let most = chance.pick(&[1, 2, 3, 4, 5, 8, PLACES as u64]);
+    chance.within(1, most)
+}
+
+/// At least one for each place.
+fn denominator(chance: &mut Chance, count: u64) -> u64 {
+    let most = chance.pick(&[count, count + 3, 4 * count, 100, 1000, 65_535]);
+    chance.within(count, most)
+}
+
+/// Each gets 1, and what is left of D is shared out by chance, all of it or a part.
+fn rates(chance: &mut Chance, denominator: u64, count: u64) -> Vec<u64> {
+    let mut rates = vec![1; count as usize];
+    let mut left = denominator - count;
+    if chance.one_in(3) {
+        left = chance.within(0, left);
+    }
+    while left > 0 {
+        let part = chance.within(1, left);
+        rates[chance.index(count as usize)] += part;
+        left -= part;
+    }
+    rates
+}
+
+fn burst(chance: &mut Chance, denominator: u64) -> u64 {
+    let most = chance.pick(&[denominator, denominator + 3, 3 * denominator, 10 * denominator, 16_777_216]);
+    chance.within(denominator, most)
+}
+
+fn need(chance: &mut Chance) -> u64 {
+    let most = chance.pick(&[1, 2, 5, 255]);
+    chance.within(1, most)
+}
+
+/// Slots for a need whose finish figure is given: often exactly so many.
+fn within(chance: &mut Chance, finish: u64) -> u64 {
+    let most = chance.pick(&[finish, finish, finish + 3, 1_073_741_824]);
+    chance.within(finish, most)
+}
+
+/// A table with up to three numbers that are likely out of their limits. N keeps to the rows that are there.
+pub fn doubtful(chance: &mut Chance) -> Table {
+    let mut table = accepted(chance);
+    for _ in 0..chance.within(1, 3) {
+        change_number(chance, &mut table);
+    }
+    table
+}
+
+fn change_number(chance: &mut Chance, table: &mut Table) {
+    let place = chance.index(table.count as usize);
+    let most = 4_294_967_295;
+    let d = table.denominator;
+    let row = &mut table.requestors[place];
+    match chance.within(0, 5) {
+        0 => table.denominator = chance.pick(&[0, 1, d.saturating_sub(1), 65_535, 65_536, most]),
+        1 | 2 => row.rate = chance.pick(&[0, 1, row.rate + 1, d, d + 1, most]),
+        3 => row.burst = chance.pick(&[0, d.saturating_sub(1), d, 16_777_216, 16_777_217, most]),
+        4 => row.need = chance.pick(&[0, row.need + 1, 255, 256, most]),
+        _ => row.within = chance.pick(&[0, 1, row.within.saturating_sub(1), 1_073_741_824, 1_073_741_825, most]),
+    }
+}
+
+/// A table's bytes with some damage.
+pub fn damaged_bytes(chance: &mut Chance, mut bytes: Vec<u8>) -> Vec<u8> {
+    let at = chance.index(bytes.len());
+    match chance.within(0, 7) {
+        0 => bytes.truncate(at),
+        1 => bytes[at] ^= 1 << chance.index(8),
+        2 => bytes[at] = chance.next() as u8,
+        3 => bytes.insert(at, chance.next() as u8),
+        4 => bytes.push(chance.next() as u8),
+        5 => drop(bytes.remove(at)),
+        6 => drop(bytes.splice(at..at, [0x80; 4])),
+        _ => drop(bytes.splice(at..=at, long_form(chance))),
+    }
+    bytes
+}
+
+/// A number whose bytes are at an edge: long forms, five bytes, the largest number and those above.
+fn long_form(chance: &mut Chance) -> Vec<u8> {
+    let forms: [&[u8]; 7] = [
+        &[0x84, 0x00],
+        &[0x80, 0x80, 0x00],
+        &[0xFF, 0xFF, 0xFF, 0xFF, 0x0F],
+        &[0xFF, 0xFF, 0xFF, 0xFF, 0x10],
+        &[0x80, 0x80, 0x80, 0x80, 0x80],
+        &[0x81, 0x80, 0x80, 0x80, 0x80, 0x01],
+        &[0x84, 0x80, 0x80, 0x80, 0x00],
+    ];
+    chance.pick(&forms).to_vec()
+}
+
+/// Bytes of every kind: accepted, with numbers out of their limits, with another N, damaged, and without any plan.
+pub fn bytes(chance: &mut Chance) -> Vec<u8> {
+    let table = match chance.within(0, 3) {
+        0 | 1 => accepted(chance),
+        2 => crowded(chance),
+        _ => doubtful(chance),
+    };
+    match chance.within(0, 5) {
+        0..=2 => table.bytes(),
+        3 => other_count(chance, table),
+        4 => damaged_bytes(chance, table.bytes()),
+        _ => {
+            let length = chance.index(80);
+            chance.bytes(length)
+        }
+    }
+}
+
+/// A table with one rate that takes the sum just past D, if it has two places or more; the needs are not what is wrong with it.
+fn crowded(chance: &mut Chance) -> Table {
+    let mut table = accepted(chance);
+    let spare = table.denominator - table.used().iter().map(|row| row.rate).sum::<u64>();
+    let place = chance.index(table.count as usize);
+    let row = &mut table.requestors[place];
+    row.rate = table.denominator.min(row.rate + spare + 1);
+    row.within = 1 << 30;
+    table
+}
+
+/// A table's bytes behind another N: too many rows, too few, or an N that is out of its limits.
+fn other_count(chance: &mut Chance, table: Table) -> Vec<u8> {
+    let digits = crate::model::number_bytes(table.denominator).len();
+    let mut bytes = table.bytes();
+    bytes[digits] = chance.pick(&[0, 1, 2, 15, 16, 17, 127, table.count as u8 + 1]);
+    bytes
+}

@@ -1,0 +1,20 @@
+//! Which numbers each call came to: tests that never saw a refusal have not tested it.
+
+use std::collections::{BTreeMap, BTreeSet};
+
+/// 0 stands for accepted.
+#[derive(Default)]
+pub struct Tally(BTreeMap<&'static str, BTreeSet<u8>>);
+
+impl Tally {
+    pub fn add<Accepted, Place, Cause>(&mut self, call: &'static str, answer: &Result<Accepted, (u8, Place, Cause)>) {
+        let number = answer.as_ref().map_or_else(|turned| turned.0, |_| 0);
+        self.0.entry(call).or_default().insert(number);
+    }
+
+    /// The call came to exactly these.
+    pub fn expect(&self, call: &str, numbers: &[u8]) {
+        let seen: Vec<u8> = self.0.get(call).into_iter().flatten().copied().collect();
+        assert_eq!(seen, numbers, "what {call} came to");
+    }
+}

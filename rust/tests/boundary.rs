@@ -1,0 +1,178 @@
+//! The library's functions as they are, without the wrapper: lent memory of the wrong length, what a refused call leaves alone, and
+//! that nothing is written beside what was lent.
+
+use justrave::sys;
+use justrave::Arbiter;
+
+const WORDS: usize = Arbiter::STATE_WORDS;
+/// What stands in memory that must not be written.
+const UNTOUCHED: u64 = 0xA5A5_A5A5_A5A5_A5A5;
+const T: [u8; 10] = [4, 2, 1, 8, 1, 4, 1, 4, 1, 7];
+
+// The functions over slices. SAFETY of each: a slice has its length behind it, and exclusive borrows do not overlap.
+
+fn start(table: &[u8], first: u64, state: &mut [u64]) -> u64 {
+    unsafe { sys::justrave_start(table.as_ptr(), table.len(), first, state.as_mut_ptr(), state.len()) }
+}
+
+fn post(state: &mut [u64], place: usize, count: u32) -> u64 {
+    unsafe { sys::justrave_post(state.as_mut_ptr(), state.len(), place, count) }
+}
+
+fn slot(state: &mut [u64], answer: &mut [u64]) -> u64 {
+    unsafe { sys::justrave_slot(state.as_mut_ptr(), state.len(), answer.as_mut_ptr(), answer.len()) }
+}
+
+fn run(state: &mut [u64], log: &mut [u8]) -> u64 {
+    unsafe { sys::justrave_run(state.as_mut_ptr(), state.len(), log.as_mut_ptr(), log.len()) }
+}
+
+fn figures(state: &[u64], place: usize, j: u32, answer: &mut [u64]) -> u64 {
+    unsafe { sys::justrave_figures(state.as_ptr(), state.len(), place, j, answer.as_mut_ptr(), answer.len()) }
+}
+
+fn lead(state: &[u64], place: usize, log: &[u8], answer: &mut [i64]) -> u64 {
+    let answer_length = answer.len();
+    let answer = answer.as_mut_ptr();
+    unsafe { sys::justrave_lead(state.as_ptr(), state.len(), place, log.as_ptr(), log.len(), answer, answer_length) }
+}
+
+fn write(state: &[u64], buffer: &mut [u8], answer: &mut [u64]) -> u64 {
+    let answer_length = answer.len();
+    let answer = answer.as_mut_ptr();
+    unsafe {
+        sys::justrave_write(state.as_ptr(), state.len(), buffer.as_mut_ptr(), buffer.len(), answer, answer_length)
+    }
+}
+
+/// Table T started at slot 0, with one transfer waiting at place 1.
+fn started() -> [u64; WORDS] {
+    let mut state = [UNTOUCHED; WORDS];
+    assert_eq!(start(&T, 0, &mut state), 0);
+    assert_eq!(post(&mut state, 1, 1), 0);
+    state
+}
+
+#[test]
+fn the_number_of_words() {
+    assert_eq!(unsafe { sys::justrave_state_words() }, WORDS);
+}
+
+/// 255 comes ahead of 8, 12, 11 and 13, and changes nothing.
+#[test]
+fn a_state_of_another_length() {
+    for length in [0, 1, WORDS - 1, WORDS + 1] {
+        let mut state = vec![UNTOUCHED; length];
+        let (mut answer, mut lead_answer) = ([UNTOUCHED; 2], [-7]);
+        let mut log = vec![0xA5; 65_537];
+        assert_eq!(start(&[], u64::MAX, &mut state), 255);
+        assert_eq!(post(&mut state, 99, 1), 255);
+        assert_eq!(slot(&mut state, &mut answer), 255);
+        assert_eq!(run(&mut state, &mut log), 255);
+        assert_eq!(figures(&state, 99, 0, &mut answer), 255);
+        assert_eq!(lead(&state, 99, &log, &mut lead_answer), 255);
+        assert_eq!(write(&state, &mut log, &mut answer[..1]), 255);
+        assert!(state.iter().chain(&answer).all(|&word| word == UNTOUCHED));
+        assert!(log.iter().all(|&byte| byte == 0xA5));
+        assert_eq!(lead_answer, [-7]);
+    }
+}
+
+/// 255 comes ahead of 23, 11 and 5 too, and a slot is then not done.
+#[test]
+fn an_answer_of_another_length() {
+    for state in [started(), [u64::MAX; WORDS]] {
+        for length in [0, 1, 2, 3] {
+            let mut kept = state;
+            let (mut answer, mut lead_answer) = (vec![UNTOUCHED; length], vec![-7; length]);
+            let mut buffer = [0xA5; 20];
+            if length != 2 {
+                assert_eq!(slot(&mut kept, &mut answer), 255);
+                assert_eq!(figures(&kept, 99, 0, &mut answer), 255);
+            }
+            if length != 1 {
+                assert_eq!(lead(&kept, 99, &[], &mut lead_answer), 255);
+                assert_eq!(write(&kept, &mut buffer, &mut answer), 255);
+            }
+            assert_eq!(kept, state);
+            assert_eq!(buffer, [0xA5; 20]);
+            assert!(answer.iter().all(|&word| word == UNTOUCHED) && lead_answer.iter().all(|&lead| lead == -7));
+        }
+    }
+}
+
+#[test]
+fn a_refused_start_clears_the_words() {
+    for (table, first, outcome) in [
+        (&T[..9], 0, 8),
+        (&T[..], (1 << 62) + 1, 12),
+        (&[4, 2, 1, 8, 1, 4, 1, 4, 1, 6], 0, 7 + 256 * 2),
+        (&[4, 1, 9], 0, 3 + 256),
+    ] {
+        let mut state = [UNTOUCHED; WORDS];
+        assert_eq!(start(table, first, &mut state), outcome);
+        assert_eq!(state, [0; WORDS]);
+    }
+}
+
+/// Cleared words, as a refused start leaves them, are no state: every call is refused 23 and writes nothing.
+#[test]
+fn cleared_words_are_no_state() {
+    let mut state = [0; WORDS];
+    let (mut answer, mut lead_answer, mut log) = ([UNTOUCHED; 2], [-7], [0xA5; 20]);
+    assert_eq!(post(&mut state, 99, 1), 23);
+    assert_eq!(slot(&mut state, &mut answer), 23);
+    assert_eq!(run(&mut state, &mut log), 23);
+    assert_eq!(figures(&state, 99, 0, &mut answer), 23);
+    assert_eq!(lead(&state, 99, &log, &mut lead_answer), 23);
+    assert_eq!(write(&state, &mut log, &mut answer[..1]), 23);
+    assert_eq!((state, answer, lead_answer, log), ([0; WORDS], [UNTOUCHED; 2], [-7], [0xA5; 20]));
+}
+
+#[test]
+fn refused_calls_write_nothing() {
+    let mut state = started();
+    let kept = state;
+    let (mut answer, mut lead_answer, mut log) = ([UNTOUCHED; 2], [-7], vec![0xA5; 65_537]);
+    assert_eq!(post(&mut state, 2, 1), 11);
+    assert_eq!(post(&mut state, 1, 65_535), 21);
+    assert_eq!(run(&mut state, &mut log), 13);
+    assert_eq!(figures(&state, 2, 1, &mut answer), 11);
+    assert_eq!(figures(&state, 1, 256, &mut answer), 5 + 256 * 2);
+    assert_eq!(lead(&state, 2, &log, &mut lead_answer), 11);
+    assert_eq!(lead(&state, 1, &log, &mut lead_answer), 13);
+    assert_eq!(write(&state, &mut log[..9], &mut answer[..1]), 14);
+    assert_eq!((state, answer, lead_answer), (kept, [UNTOUCHED; 2], [-7]));
+    assert!(log.iter().all(|&byte| byte == 0xA5));
+}
+
+/// Accepted calls, each with memory on both sides of what it is lent.
+#[test]
+fn nothing_is_written_beside_lent_memory() {
+    let mut memory = [UNTOUCHED; WORDS + 2];
+    let state = &mut memory[1..=WORDS];
+    let mut answer = [UNTOUCHED; 4];
+    let mut log = [0xA5; 22];
+    assert_eq!(start(&T, 0, state), 0);
+    assert_eq!(post(state, 1, 2), 0);
+    assert_eq!(slot(state, &mut answer[1..3]), 0);
+    assert_eq!(answer, [UNTOUCHED, 0, 2, UNTOUCHED]);
+    assert_eq!(run(state, &mut log[1..4]), 0);
+    assert_eq!(log[..5], [0xA5, 255, 255, 1, 0xA5]);
+    assert_eq!(figures(state, 1, 1, &mut answer[1..3]), 0);
+    assert_eq!(answer, [UNTOUCHED, 3, 7, UNTOUCHED]);
+    assert_eq!(write(state, &mut log[1..21], &mut answer[1..2]), 0);
+    assert_eq!(answer, [UNTOUCHED, 10, 7, UNTOUCHED]);
+    assert_eq!((log[0], &log[1..11], &log[11..]), (0xA5, &T[..], &[0xA5; 11][..]));
+    assert_eq!((memory[0], memory[WORDS + 1]), (UNTOUCHED, UNTOUCHED));
+}
+
+#[test]
+fn empty_memory_may_be_lent() {
+    let mut state = started();
+    let kept = state;
+    let mut lead_answer = [-7];
+    assert_eq!(run(&mut state, &mut []), 0);
+    assert_eq!(lead(&state, 1, &[], &mut lead_answer), 0);
+    assert_eq!((state, lead_answer), (kept, [0]));
+}

@@ -1,0 +1,131 @@
+//! Document 01's bench examples through the wrapper, by their numbers. Nothing here knows the model.
+
+use justrave::{Arbiter, Cause, Figures, Refusal, SlotAnswer, Slots, Transfers};
+
+/// Table T.
+const T: [u8; 10] = [0x04, 0x02, 0x01, 0x08, 0x01, 0x04, 0x01, 0x04, 0x01, 0x07];
+
+fn started(table: &[u8]) -> Arbiter {
+    Arbiter::start(table, Slots(0)).expect("the table is accepted")
+}
+
+/// What a table's bytes are refused with, and the place.
+fn refused(table: &[u8]) -> (u8, Option<usize>) {
+    let refusal = Arbiter::start(table, Slots(0)).expect_err("the table is refused");
+    assert_eq!(refusal.cause, Cause::Input);
+    (refusal.number, refusal.place)
+}
+
+/// Case 3: T from slot 0 with three posted to each place.
+fn case_3() -> Arbiter {
+    let mut line = started(&T);
+    line.post(0, Transfers(3)).unwrap();
+    line.post(1, Transfers(3)).unwrap();
+    line
+}
+
+#[test]
+fn case_1_t_is_read_and_written() {
+    let mut buffer = [0xA5; 12];
+    assert_eq!(started(&T).write_table(&mut buffer), Ok(10));
+    assert_eq!(buffer[..10], T);
+    assert_eq!(buffer[10..], [0xA5; 2]);
+}
+
+#[test]
+fn case_2_a_finish_figure_above_its_need() {
+    let mut hasty = T;
+    hasty[9] = 6;
+    assert_eq!(refused(&hasty), (7, Some(1)));
+    let figures = started(&T).figures(1, Transfers(1));
+    assert_eq!(figures, Ok(Figures { wait: Slots(3), finish: Slots(7) }));
+}
+
+#[test]
+fn cases_3_and_5_a_run_and_its_leads() {
+    let mut line = case_3();
+    let mut log = [0xA5; 9];
+    line.run(&mut log).unwrap();
+    assert_eq!(log, [0, 0, 1, 0, 1, 255, 255, 1, 255]);
+    assert_eq!((line.lead(0, &log), line.lead(1, &log), line.lead(1, &log[..2])), (Ok(3), Ok(3), Ok(-2)));
+}
+
+/// The credits are not told through the wrapper; the slots that follow show them.
+#[test]
+fn case_4_by_single_slots() {
+    let mut line = case_3();
+    let places = [Some(0), Some(0), Some(1), Some(0), Some(1), None, None, Some(1), None];
+    for (stamp, place) in (0..).map(Slots).zip(places) {
+        let must = place.map_or(SlotAnswer::Idle(stamp), |place| SlotAnswer::Granted(stamp, place));
+        assert_eq!(line.slot(), Ok(must));
+    }
+}
+
+#[test]
+fn case_6_numbers() {
+    assert_eq!(refused(&[0x84, 0x00, 0x02]), (9, None));
+    // as D, the largest number is read and is then too large for D; one more is no number at all
+    assert_eq!(refused(&[0xFF, 0xFF, 0xFF, 0xFF, 0x0F]), (1, None));
+    assert_eq!(refused(&[0xFF, 0xFF, 0xFF, 0xFF, 0x10]), (9, None));
+    // 300 as D and as a burst
+    started(&[0xAC, 0x02, 0x01, 0x01, 0xAC, 0x02, 0x01, 0xAC, 0x02]);
+}
+
+#[test]
+fn cases_7_and_8_rate_sums_and_bursts() {
+    assert_eq!(refused(&[4, 2, 3, 4, 1, 100, 2, 4, 1, 100]), (6, None));
+    started(&[4, 2, 3, 4, 1, 100, 1, 4, 1, 100]);
+    assert_eq!(refused(&[4, 1, 1, 3, 1, 100]), (4, Some(0)));
+    started(&[4, 1, 1, 4, 1, 100]);
+}
+
+#[test]
+fn case_9_a_full_backlog() {
+    let mut line = started(&T);
+    line.post(1, Transfers(65_535)).unwrap();
+    let full = line.clone();
+    line.post(1, Transfers(0)).unwrap();
+    assert_eq!(line, full);
+    assert_eq!(line.post(1, Transfers(1)), Err(Refusal { number: 21, place: None, cause: Cause::State }));
+    assert_eq!(line, full);
+}
+
+#[test]
+fn case_10_the_last_slot() {
+    let last = Slots(Arbiter::MAX_SLOT.0 - 1);
+    let mut line = Arbiter::start(&T, last).unwrap();
+    assert_eq!(line.slot(), Ok(SlotAnswer::Idle(last)));
+    let at_the_limit = line.clone();
+    let refusal = Refusal { number: 22, place: None, cause: Cause::State };
+    assert_eq!(line.slot(), Err(refusal));
+    assert_eq!(line.run(&mut [0xA5]), Err(refusal));
+    assert_eq!(line.run(&mut []), Ok(()));
+    assert_eq!(line, at_the_limit);
+    assert_eq!(Arbiter::start(&T, Slots(Arbiter::MAX_SLOT.0 + 1)).unwrap_err().number, 12);
+}
+
+#[test]
+fn case_11_a_finish_figure() {
+    let line = started(&[5, 2, 1, 6, 1, 100, 2, 5, 1, 100]);
+    assert_eq!(line.figures(1, Transfers(1)), Ok(Figures { wait: Slots(2), finish: Slots(5) }));
+}
+
+#[test]
+fn case_12_others_who_begin_later() {
+    let mut line = started(&[4, 2, 1, 40, 1, 100, 1, 4, 1, 100]);
+    line.post(1, Transfers(100)).unwrap();
+    let mut log = [0; 24];
+    line.run(&mut log[..11]).unwrap();
+    line.post(0, Transfers(30)).unwrap();
+    line.run(&mut log[11..]).unwrap();
+    let granted: Vec<usize> = (0..24).filter(|&slot| log[slot] == 1).collect();
+    assert_eq!(granted, [0, 3, 7]);
+}
+
+#[test]
+fn case_13_denominators() {
+    assert_eq!(refused(&[0]), (1, None));
+    assert_eq!(refused(&[0x80, 0x80, 0x04]), (1, None));
+    assert_eq!(refused(&[]), (8, None));
+    started(&[0xFF, 0xFF, 0x03, 0x01, 0x01, 0xFF, 0xFF, 0x03, 0x01, 0xFF, 0xFF, 0x03]);
+}
