@@ -23,13 +23,19 @@
 #include <stddef.h>
 #include <stdint.h>
 
+#if SIZE_MAX != UINT64_MAX
+#error "justrave is built for machines whose sizes have 64 bits"
+#endif
+
 #ifdef __cplusplus
 extern "C" {
 #endif
 
 /*
  * How many words a state has; a macro, so that a state can be declared without a heap. justrave_state_words() is the library's own
- * count. If the two differ, header and library are of different versions, and every call is refused JUSTRAVE_LENGTH.
+ * count. If the two differ, header and library are of different versions, and every call is refused JUSTRAVE_LENGTH. Two versions may
+ * also have as many words and read them differently: words that were kept are for the library that wrote them, and after an update
+ * the unit starts anew.
  */
 #define JUSTRAVE_STATE_WORDS 99
 
@@ -127,8 +133,8 @@ uint64_t justrave_slot(uint64_t *state, size_t state_length, uint64_t *answer, s
 uint64_t justrave_run(uint64_t *state, size_t state_length, uint8_t *log, size_t log_length);
 
 /*
- * Answers a place's wait in slots, rounded up, for which the places above can hold it back, and its finish figure: `transfers` of them, 1 to 255, that wait together are all
- * granted within so many slots. Refused 255, 23, 11, 5.
+ * Answers a place's wait in slots, rounded up, for which the places above can hold it back, and its finish figure: `transfers` of
+ * them, 1 to 255, that wait together are all granted within so many slots. Refused 255, 23, 11, 5.
  */
 uint64_t justrave_figures(const uint64_t *state, size_t state_length, size_t place, uint32_t transfers, uint64_t *answer,
                           size_t answer_length);

@@ -248,7 +248,7 @@ impl Arbiter {
     }
 
     /// An arbiter from words that were kept. Nothing is tested here: each call tests its state, and one that breaks a rule is
-    /// refused 23.
+    /// refused 23. The words are for the version of the library that wrote them: after an update, start anew.
     ///
     /// ```
     /// use justrave::{Arbiter, Slots, Transfers};

@@ -48,18 +48,18 @@ unfolding then
 two-fault faultless w rest r e = rw e
 two-fault (fault x) w rest r e = e
 
--- what a number that is within its bounds is, and the other way round
+-- a number passes its bounds when it is within them, and only then
 pub held-open : (b : Bounds) (x : ℕ) → heldTo b x ≡ faultless → (b .low ≤ x) × (x ≤ b .high)
 unfolding heldTo
 held-open b x e = in-range-true _ _ _ (gate-open _ _ _ e .0)
 
--- the code's bounds are those of the field
-pub held-by : (v : Verdict) (b field : Bounds) (x : ℕ) → v ≡ heldTo b x → b ≡ field → v ≡ heldTo field x
-held-by v b field x e f = e ∙ ap (λ y. heldTo y x) f
-
 pub held : (b : Bounds) (x : ℕ) → b .low ≤ x → x ≤ b .high → heldTo b x ≡ faultless
 unfolding heldTo
 held b x low high = gate-passed _ _ _ (in-range low high)
+
+-- the code's bounds are those of the field
+pub held-by : (v : Verdict) (b field : Bounds) (x : ℕ) → v ≡ heldTo b x → b ≡ field → v ≡ heldTo field x
+held-by v b field x e f = e ∙ ap (λ y. heldTo y x) f
 
 -- a check that passes place by place passes at each place
 pub each-place-at : (check : ℕ → Requestor → Verdict) (p : ℕ) (rs : List Requestor) → eachPlace check p rs ≡ faultless
@@ -101,7 +101,24 @@ row-open d p r e =
       within-most = wi .1;
     }
 
--- a table that passes checks 1 to 6
+-- what each of checks 1 to 6 says of a table that passes them all
+pub record Passed (limit : ℕ) (t : Table) : Type 0 where
+  pub denominator : heldTo denominatorBounds (t .denominator) ≡ faultless
+  pub count : heldTo (countBounds limit) (t .count) ≡ faultless
+  pub clear : every requestorClear (drop (t .count) (t .requestors)) ≡ true
+  pub rows : eachPlace (rowVerdict (t .denominator)) 0 (requestorsOf t) ≡ faultless
+  pub sum : rateSumVerdict t ≡ faultless
+
+pub passed : (limit : ℕ) (t : Table) → tableVerdict limit t ≡ faultless → Passed limit t
+unfolding tableVerdict tailVerdict
+passed limit t e =
+    let a = then-open _ _ e in
+    let b = then-open _ _ (a .1) in
+    let c = then-open _ _ (b .1) in
+    let f = then-open _ _ (c .1) in
+    record { denominator = a .0; count = b .0; clear = gate-open _ _ _ (c .0) .0; rows = f .0; sum = f .1 }
+
+-- a table that passes checks 1 to 6, in numbers
 pub record Fair (limit : ℕ) (t : Table) : Type 0 where
   pub denominator-least : 1 ≤ t .denominator
   pub denominator-most : t .denominator ≤ maxDenominator
@@ -112,23 +129,19 @@ pub record Fair (limit : ℕ) (t : Table) : Type 0 where
   pub rate-sum : total rate (requestorsOf t) ≤ t .denominator
 
 pub fair : (limit : ℕ) (t : Table) → tableVerdict limit t ≡ faultless → Fair limit t
-unfolding tableVerdict tailVerdict rateSumVerdict
+unfolding rateSumVerdict
 fair limit t e =
-    let a = then-open _ _ e in
-    let b = then-open _ _ (a .1) in
-    let c = then-open _ _ (b .1) in
-    let f = then-open _ _ (c .1) in
-    let g = gate-open _ _ _ (f .1) in
-    let d = held-open denominatorBounds _ (a .0) in
-    let n = held-open (countBounds limit) _ (b .0) in
+    let p = passed limit t e in
+    let d = held-open denominatorBounds _ (p .denominator) in
+    let n = held-open (countBounds limit) _ (p .count) in
     record {
       denominator-least = d .0;
       denominator-most = d .1;
       count-least = n .0;
       count-most = n .1;
-      clear = gate-open _ _ _ (c .0) .0;
-      row = λ p h. row-open _ (0 + p) _ (each-place-at (rowVerdict (t .denominator)) 0 (requestorsOf t) (f .0) p h);
-      rate-sum = leb-true _ _ (g .0);
+      clear = p .clear;
+      row = λ q h. row-open _ (0 + q) _ (each-place-at (rowVerdict (t .denominator)) 0 (requestorsOf t) (p .rows) q h);
+      rate-sum = leb-true _ _ (gate-open _ _ _ (p .sum) .0);
     }
 
 -- a table that passes admission: checks 1 to 6, and each need holds

@@ -4,3 +4,4 @@ pub mod Checks
 pub mod Places
 pub mod Above
 pub mod Sound
+pub mod Shapes

@@ -21,7 +21,7 @@ use Rattle.arbiter.specs.declared.state.Arbiter.{Arbiter}
 use Rattle.arbiter.specs.Limits.{maxBurst, maxBacklog, maxSlot}
 use Rattle.arbiter.specs.Refusals.{Verdict, faultless, fault}
 use Rattle.arbiter.specs.Table.{rate, burst, noRequestor, requestorClear, requestorsOf, tableVerdict, requestorAt}
-use Rattle.arbiter.specs.State.{credit, backlog, noAccount, accountClear, backlogFits, accountAt, creditsHold, isFaultless, accountsHold, sound, placeVerdict}
+use Rattle.arbiter.specs.State.{credit, backlog, noAccount, accountClear, backlogFits, accountAt, creditsHold, isFaultless, accountsHold, sound, placeVerdict, Shaped}
 use Rattle.arbiter.specs.Start.{fresh, opening, startVerdict}
 use Rattle.arbiter.proofs.Checks.{gate-open, then-open, Row, Fair, fair, Admitted, admitted}
 
@@ -95,20 +95,20 @@ module _ (limit : ℕ) (s : Arbiter) where
   unfolding sound
   sound-table e = is-faultless-true _ (and-true (isFaultless (tableVerdict limit (s .table))) _ e .0)
 
-  pub sound-open : length (s .table .requestors) ≡ limit → length (s .accounts) ≡ limit → sound limit s ≡ true → Sound limit s
+  pub sound-open : Shaped limit s → sound limit s ≡ true → Sound limit s
   unfolding sound accountsHold
-  sound-open rows accounts e =
+  sound-open shape e =
       let a = and-true (isFaultless (tableVerdict limit (s .table))) _ e in
       let b = and-true (leb (s .slot .0) maxSlot) _ (a .1) in
       let c = and-true (accountsHold (s .table .count) (s .table .requestors) (s .accounts)) _ (b .1) in
       let f = and-true (every backlogFits (take (s .table .count) (s .accounts))) _ (c .0) in
       let passes = sound-table e in
       record {
-        rows = rows;
-        accounts = accounts;
+        rows = shape .rows;
+        accounts = shape .accounts;
         passes = passes;
         slot-most = leb-true _ _ (b .0);
-        backlog-most = backlogs-open _ _ (omega (arith, fair limit (s .table) passes .count-most)) (f .0);
+        backlog-most = backlogs-open _ _ (omega (arith, shape .accounts, fair limit (s .table) passes .count-most)) (f .0);
         sums = sums-past _ _ _ (c .1) (sums-open _ _ _ (f .1));
         clear = c .1;
       }

@@ -7,7 +7,7 @@ use Rattle.arbiter.specs.declared.asked.FiguresAnswer as code
 use Rattle.arbiter.specs.declared.asked.FiguresAnswer.the-variants as code-answer
 use Rattle.arbiter.specs.Refusals.{Verdict, refusalOf, then, resolve}
 use Rattle.arbiter.specs.Table.{requestorsOf, needBounds, heldTo}
-use Rattle.arbiter.specs.Figures.{burstsAbove, rateLeft, waitOf, finish}
+use Rattle.arbiter.specs.Figures.{wait, finish}
 use Rattle.arbiter.specs.State.{placeVerdict}
 
 -- both in slots
@@ -23,7 +23,7 @@ unfoldable pub figures : ℕ → Arbiter → (place j : ℕ) → FiguresAnswer
 figures limit s p j =
     resolve (figuresVerdict limit s p j)
     (figured
-    (waitOf (burstsAbove p (requestorsOf (s .table))) (rateLeft (s .table .denominator) p (requestorsOf (s .table))))
+    (wait (s .table .denominator) (requestorsOf (s .table)) p)
     (finish (s .table .denominator) (requestorsOf (s .table)) p j))
     refused
 

@@ -29,6 +29,10 @@ rateLeft d p rs = d - ratesAbove p rs
 abbrev pub waitOf : ℕ → ℕ → ℕ
 waitOf B R = roundedUp B R
 
+-- the reported wait of place p
+abbrev pub wait : ℕ → List Requestor → ℕ → ℕ
+wait d rs p = waitOf (burstsAbove p rs) (rateLeft d p rs)
+
 -- the finish figure for j transfers at rate n: the reported wait, and j × D / n rounded up
 abbrev pub finishOf : ℕ → ℕ → ℕ → ℕ → ℕ → ℕ
 finishOf d B R n j = waitOf B R + roundedUp (j * d) n

@@ -58,6 +58,10 @@ sound limit s =
     && (accountsHold (s .table .count) (s .table .requestors) (s .accounts)
     && every accountClear (drop (s .table .count) (s .accounts))))
 
+-- check 11: the place is one of the table's, and then what follows
+abbrev pub atPlace : Arbiter → (place : ℕ) → Verdict → Verdict
+atPlace s p next = gate (refusal 11) (ltb p (s .table .count)) next
+
 -- what every question about a place is checked for first: 23, then 11
 unfoldable pub placeVerdict : ℕ → Arbiter → (place : ℕ) → Verdict
-placeVerdict limit s p = gate (refusal 23) (sound limit s) (gate (refusal 11) (ltb p (s .table .count)) faultless)
+placeVerdict limit s p = gate (refusal 23) (sound limit s) (atPlace s p faultless)

@@ -9,7 +9,7 @@ ghost use Prim.Native.Nat.{ℕ, _+_, _≤_, _<_, _^_};
 ghost use Rattle.arbiter.specs.Limits.{maxPlaces};
 ghost use Rattle.arbiter.specs.Refusals.{faultless};
 ghost use Rattle.arbiter.specs.Table.{requestorsOf, tableVerdict};
-ghost use Rattle.arbiter.specs.Figures.{roundedUp, burstsAbove, rateLeft, waitOf, finish};
+ghost use Rattle.arbiter.specs.Figures.{roundedUp, wait, finish};
 
 // a / b, rounded up.
 fn rounded_up(a: u64, b: u64) -> u64
@@ -23,7 +23,7 @@ fn rounded_up(a: u64, b: u64) -> u64
 // The reported wait of place p: B / R, rounded up.
 pub(crate) fn wait(t: Table, p: usize) -> Slots
     requires { ⌜ (tableVerdict maxPlaces t ≡ faultless) × (p < t .count) ⌝ }
-    ensures figure { λ r. ⌜ r .0 ≡ waitOf (burstsAbove p (requestorsOf t)) (rateLeft (t .denominator) p (requestorsOf t)) ⌝ }
+    ensures figure { λ r. ⌜ r .0 ≡ wait (t .denominator) (requestorsOf t) p ⌝ }
     ensures small { λ r. ⌜ r .0 < 2 ^ 62 ⌝ }
 {
     let d = t.denominator;

@@ -27,7 +27,7 @@ pub enum StateRefusal {
     Unsound,
 }
 
-// What caused a refusal.
+// Why a call was refused, as its answer holds it: one of the input refusals, or one of the state refusals.
 pub enum Cause {
     Input(InputRefusal),
     State(StateRefusal),
@@ -39,7 +39,7 @@ pub enum Named {
     Place(usize),
 }
 
-// Whether the input or the state caused a refusal.
+// Document 01's cause of a refusal.
 pub enum Origin {
     Input,
     State,

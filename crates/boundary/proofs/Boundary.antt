@@ -234,7 +234,7 @@ pub granted-small : (limit : ℕ) (words : List ℕ) (s : Arbiter) → limit ≤
 unfolding called
 granted-small limit words s few f d g stamp p a =
     let by = granted-by s (gate (refusal 23) (sound limit s) (ruleVerdict s slot)) stamp p (ap (λ x. x .answer) (sym g) ∙ a) in
-    let v = sound-open limit s (rw f (read-shaped limit words .rows)) (rw f (read-shaped limit words .accounts)) (gate-open (refusal 23) (sound limit s) (ruleVerdict s slot) (by .0)) in
+    let v = sound-open limit s (rw f (read-shaped limit words)) (gate-open (refusal 23) (sound limit s) (ruleVerdict s slot) (by .0)) in
     byte-fits s (Place p) limit v few (sym (by .1))
 
 -- ---- run

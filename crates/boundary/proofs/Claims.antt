@@ -27,7 +27,7 @@ use Rattle.leads.specs.Lead as leads
 use Rattle.table_bytes.specs.Reading.{Read, read, stop, next, fieldRead, rowsRead, placesRead, numbersRead, lastVerdict, TableRead, accept, refuse, settled, readTable}
 use Rattle.table_bytes.specs.Writing as writing
 use Rattle.table_bytes.proofs.Accepted.{next-open, read-same, field-open, rows-open}
-use Rattle.calls.specs.Calls.{Call, post, slot, grantOf, advanced, filled, done, ruleVerdict, outcome, called}
+use Rattle.calls.specs.Calls.{Call, post, slot, grantOf, advanced, withPost, done, ruleVerdict, outcome, called}
 use Rattle.calls.specs.Log.{run}
 use Rattle.calls.proofs.Slots.{after-length}
 use Rattle.boundary.specs.Words.{rowWords, accountWords, stateWords, wordCount, wordsState, rightLength}
@@ -78,7 +78,7 @@ write-by-value limit s buffer old v one ok =
 
 -- a call keeps the arrays' lengths
 outcome-shaped : (limit : ℕ) (v : Verdict) (s : Arbiter) (c : Call) → Shaped limit s → Shaped limit (outcome v s c .state)
-unfolding done filled advanced
+unfolding done withPost advanced
 outcome-shaped limit faultless s (post p count) h = record { rows = h .rows; accounts = simp length-set (h .accounts) }
 outcome-shaped limit faultless s slot h = record {
   rows = h .rows;

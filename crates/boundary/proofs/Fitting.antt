@@ -16,7 +16,7 @@ use Rattle.arbiter.specs.declared.state.Account.{Account}
 use Rattle.arbiter.specs.declared.state.Arbiter.{Arbiter}
 use Rattle.arbiter.specs.Limits.{maxBurst}
 use Rattle.arbiter.specs.Table.{noRequestor, requestorAt, requestorClear}
-use Rattle.arbiter.specs.State.{credit, backlog, noAccount, accountAt, accountClear, sound}
+use Rattle.arbiter.specs.State.{credit, backlog, noAccount, accountAt, accountClear}
 use Rattle.arbiter.proofs.Checks.{Row, Fair}
 use Rattle.arbiter.proofs.Sound.{Sound, sound-open, sound-fair, credit-most, row-at}
 use Rattle.boundary.specs.Words.{wordCount, wordsRows, wordsAccounts, wordsState, rightLength}
@@ -120,7 +120,7 @@ module _ (limit : ℕ) (s : Arbiter) (v : Sound limit s) (few : limit * maxBurst
 pub sound-fits : Sound-fits
 unfolding stateFits
 sound-fits limit s shaped few e =
-    let v = sound-open limit s (shaped .rows) (shaped .accounts) e in
+    let v = sound-open limit s shaped e in
     true-and _ _ (le-leb (s .table .denominator) maxField (omega (arith, sound-fair limit s v .denominator-most)))
     (true-and _ _ (at-every rowFits noRequestor (s .table .requestors) (row-fits limit s v few))
     (at-every accountFits noAccount (s .accounts) (account-fits limit s v few)))

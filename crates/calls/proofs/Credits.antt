@@ -15,7 +15,7 @@ use Rattle.calls.specs.declared.slot.Grant.the-variants.{Nobody}
 use Rattle.calls.specs.Rule.{firstEligible, served, after}
 use Rattle.calls.proofs.Accounts.{passed-most, passed-within}
 use Rattle.calls.proofs.Head.{slotted, by-head, slotted-no-place, slotted-no-account, first-no-place, first-no-account}
-use Rattle.calls.specs.Places.{toFirst}
+use Rattle.calls.specs.Grants.{toFirst}
 use Rattle.calls.proofs.Grants.{to-first-zero, to-first-one}
 
 -- a place that waits has a burst for one transfer

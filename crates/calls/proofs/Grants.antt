@@ -6,7 +6,7 @@ use Rattle.lists.proofs.Tests.{cases}
 use Rattle.calls.specs.declared.slot.Grant.{Grant}
 use Rattle.calls.specs.declared.slot.Grant.the-variants.{Nobody, Place}
 use Rattle.calls.specs.Rule.{later}
-use Rattle.calls.specs.Places.{toPlace, toFirst}
+use Rattle.calls.specs.Grants.{toPlace, toFirst}
 
 pub to-first-zero : (g : Grant) → toFirst 0 g ≡ 0
 unfolding toFirst

@@ -13,7 +13,7 @@ use Rattle.calls.specs.declared.slot.Grant.{Grant}
 use Rattle.calls.specs.declared.slot.Grant.the-variants.{Nobody, Place}
 use Rattle.calls.proofs.Accounts.{eligible-true, eligible-false}
 use Rattle.calls.specs.Rule.{eligible, later, firstEligible, served, passed, after}
-use Rattle.calls.specs.Places.{toPlace, toFirst}
+use Rattle.calls.specs.Grants.{toPlace, toFirst}
 use Rattle.calls.proofs.Grants.{to-first-later, to-place-later-zero, to-place-later}
 
 -- the accounts after a slot: the search, and what it makes of them

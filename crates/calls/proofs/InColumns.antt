@@ -1,12 +1,10 @@
 -- What the columns of numbers are to the rule: the row and the account of a place, and a state's own columns, which give the state's
 -- grant and accounts. Assumes nothing.
 use mathlib.Core.Path.{_≡_, refl, ap, sym, _∙_}
-use mathlib.Core.Bool.{true, false}
 use mathlib.Core.List.{List, [], _∷_, map}
 use Prim.Native.Nat.{ℕ, zero, suc, _+_, _≤_, _<_, _^_}
 use native.Mathlib.Omega.{arith}
 use lib.ListN.{length, getD, take, length-map, List·getD-map}
-use Rattle.lists.specs.Choices.{pick}
 use Rattle.lists.specs.Pairs.{paired}
 use Rattle.lists.proofs.Pairs.{length-paired, paired-at, paired-map}
 use Rattle.arbiter.specs.declared.table.Requestor.{Requestor}
@@ -18,7 +16,7 @@ use Rattle.arbiter.specs.State.{credit, backlog, noAccount, accountAt}
 use Rattle.arbiter.proofs.Sound.{Sound}
 use Rattle.calls.specs.declared.slot.Grant.{Grant}
 use Rattle.calls.specs.declared.slot.Grant.the-variants.{Nobody, Place}
-use Rattle.calls.specs.Rule.{eligible, later, firstEligible, served, passed, after}
+use Rattle.calls.specs.Rule.{eligible, firstEligible, served, passed, after}
 use Rattle.calls.specs.Columns.{rowOf, accountOf, rowsOf, accountsOf, columnsGrant, columnsAfter, Room}
 use Rattle.calls.specs.Calls.{grantOf, advanced}
 use Rattle.calls.proofs.Room.{places-fit, sum-fits}

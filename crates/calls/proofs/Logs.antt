@@ -3,14 +3,12 @@ use mathlib.Core.Path.{_≡_, refl, ap, sym, _∙_}
 use mathlib.Core.Bool.{true, false}
 use mathlib.Core.List.{List, [], _∷_, _++_, append-nil}
 use Prim.Native.Nat.{ℕ, zero, suc, _+_, _-_, _≤_, _<_}
-use native.Mathlib.Numerals.{add-one}
+use native.Mathlib.Nat.{zero-add, suc-add}
 use native.Mathlib.Omega.{arith}
 use borrow.Author.Tests.{leb-true}
 use borrow.Rule.Slice.PartMut.{putMid}
-use lib.Dec.{leb}
 use lib.ListN.{length, set, take, drop, length-take, drop-of-length-le}
 use Rattle.lists.specs.Overwriting.{writtenOver}
-use Rattle.lists.proofs.Tests.{cases}
 use Rattle.lists.proofs.Overwriting.{length-over, written-behind}
 use Rattle.arbiter.specs.declared.refusals.Refusal.{Refusal}
 use Rattle.arbiter.specs.declared.table.Requestor.{Requestor}
@@ -26,52 +24,46 @@ use Rattle.arbiter.proofs.Checks.{gate-open, then-open, gate-passed}
 use Rattle.arbiter.proofs.Sound.{Sound}
 use Rattle.calls.specs.declared.slot.Grant.{Grant}
 use Rattle.calls.specs.declared.slot.Grant.the-variants.{Nobody, Place}
-use Rattle.calls.specs.Rule.{eligible, later, firstEligible}
+use Rattle.calls.specs.Rule.{firstEligible}
 use Rattle.calls.specs.Columns.{accountsOf, columnsGrant, columnsAfter, Room}
 use Rattle.calls.specs.Calls.{grantOf, advanced}
 use Rattle.calls.specs.Log.{grantByte, slotsState, slotsLog, slotsVerdict, runVerdict, Outcome, run}
+use Rattle.calls.proofs.Search.{first-found}
 use Rattle.calls.proofs.InColumns.{Own, own-grant, own-room, own-next}
 use Rattle.calls.proofs.Kept.{fair-table, advanced-sound}
 
 -- ---- the byte of a grant
 
--- a granted place is one of the requestors'
-first-inside : (d : ℕ) (rs : List Requestor) (accounts : List Account) (p : ℕ) → firstEligible d rs accounts ≡ Place p → p < length rs
-unfolding firstEligible later
-first-inside d [] accounts p e = let z : _≡_ {A = ℕ} 0 1 = cc in absurd (omega arith)
-first-inside d (r ∷ rs) [] p e = let z : _≡_ {A = ℕ} 0 1 = cc in absurd (omega arith)
-first-inside d (r ∷ rs) (a ∷ accounts) p e = cases (eligible d r a)
-    (λ this. here (rw this at e))
-    (λ other. further (firstEligible d rs accounts) refl (rw other at e) (first-inside d rs accounts))
-  where
-    here : Place 0 ≡ Place p → p < suc (length rs)
-    here same = let zero-is : _≡_ {A = ℕ} 0 p = cc in omega arith
-
-    further : (g : Grant) → firstEligible d rs accounts ≡ g → later g ≡ Place p → ((q : ℕ) → firstEligible d rs accounts ≡ Place q → q < length rs) → p < suc (length rs)
-    further Nobody f same inside = let z : _≡_ {A = ℕ} 0 1 = cc in absurd (omega arith)
-    further (Place q) f same inside = let next-is : suc q ≡ p = cc in omega (arith, inside q f)
-
 -- a grant among the first n places has a byte of its own
 pub byte-of : (d n : ℕ) (rs : List Requestor) (accounts : List Account) (g : Grant) → n ≤ 255 → g ≡ firstEligible d (take n rs) accounts → grantByte g < 256
 byte-of d n rs accounts Nobody few e = omega arith
-byte-of d n rs accounts (Place p) few e = omega (arith, first-inside d (take n rs) accounts p (sym e), length-take n rs)
+byte-of d n rs accounts (Place p) few e = omega (arith, first-found d p (take n rs) accounts (sym e) .0, length-take n rs)
 
 pub byte-fits : (s : Arbiter) (g : Grant) (places : ℕ) → Sound places s → places ≤ 255 → g ≡ grantOf s → grantByte g < 256
 unfolding grantOf
 byte-fits s g places v few e =
     byte-of (s .table .denominator) (s .table .count) (s .table .requestors) (s .accounts) g (omega (arith, fair-table places s v .count-most)) e
 
--- ---- one slot more at the end
+-- ---- slots, and then more slots
 
-pub state-more : (k : ℕ) (s : Arbiter) → slotsState (suc k) s ≡ advanced (slotsState k s) (grantOf (slotsState k s))
+pub state-adds : (a b : ℕ) (s : Arbiter) → slotsState (a + b) s ≡ slotsState b (slotsState a s)
 unfolding slotsState
-state-more zero s = refl
-state-more (suc k) s = state-more k (advanced s (grantOf s))
+state-adds zero b s = rw (zero-add b)
+state-adds (suc a) b s = rw (suc-add a b) (state-adds a b (advanced s (grantOf s)))
 
-pub log-more : (k : ℕ) (s : Arbiter) → slotsLog (suc k) s ≡ slotsLog k s ++ (grantByte (grantOf (slotsState k s)) ∷ [])
+pub log-adds : (a b : ℕ) (s : Arbiter) → slotsLog (a + b) s ≡ slotsLog a s ++ slotsLog b (slotsState a s)
+unfolding slotsState slotsLog
+log-adds zero b s = rw (zero-add b)
+log-adds (suc a) b s = rw (suc-add a b) (ap (λ l. grantByte (grantOf s) ∷ l) (log-adds a b (advanced s (grantOf s))))
+
+-- one slot more at the end
+pub state-more : (k : ℕ) (s : Arbiter) → slotsState (k + 1) s ≡ advanced (slotsState k s) (grantOf (slotsState k s))
+unfolding slotsState
+state-more k s = state-adds k 1 s
+
+pub log-more : (k : ℕ) (s : Arbiter) → slotsLog (k + 1) s ≡ slotsLog k s ++ (grantByte (grantOf (slotsState k s)) ∷ [])
 unfolding slotsLog slotsState
-log-more zero s = refl
-log-more (suc k) s = ap (λ l. grantByte (grantOf s) ∷ l) (log-more k (advanced s (grantOf s)))
+log-more k s = log-adds k 1 s
 
 pub length-log : (k : ℕ) (s : Arbiter) → length (slotsLog k s) ≡ k
 unfolding slotsLog
@@ -113,11 +105,11 @@ module _ {s : Arbiter} {old log : List ℕ} {state : Arbiter} {k : ℕ} (a : Alo
       → Along s old (putMid k (length log - k) log part) next (k + 1)
   along-next h next part e f = record {
     within = omega (arith, along-length);
-    now = e ∙ ap (λ x. advanced x (grantOf x)) (a .now) ∙ sym (state-more k s) ∙ ap (λ n. slotsState n s) (sym (add-one k));
+    now = e ∙ ap (λ x. advanced x (grantOf x)) (a .now) ∙ sym (state-more k s);
     same =
         rw (a .same)
         (written-behind (slotsLog k s) old k (length-log k s) (grantByte (grantOf (slotsState k s)) ∷ []) part (rw (a .same, a .now) at f))
-        ∙ ap (λ l. writtenOver l old) (sym (log-more k s) ∙ ap (λ n. slotsLog n s) (sym (add-one k)));
+        ∙ ap (λ l. writtenOver l old) (sym (log-more k s));
   }
 
   pub along-all : length log ≤ k → (state ≡ slotsState (length old) s) × (log ≡ slotsLog (length old) s)
@@ -159,7 +151,7 @@ module _ {s : Arbiter} {old log rates bursts credits backlogs : List ℕ} {k : �
       → part ≡ writtenOver (grantByte grant-then ∷ []) (take (length log - k) (drop k log))
       → Running s old (putMid k (length log - k) log part) rates bursts after-credits after-backlogs (k + 1)
   running-next h after-credits after-backlogs part l m e f =
-      let at-next : slotsState (k + 1) s ≡ advanced (slotsState k s) (grantOf (slotsState k s)) = ap (λ n. slotsState n s) (add-one k) ∙ state-more k s in
+      let at-next : slotsState (k + 1) s ≡ advanced (slotsState k s) (grantOf (slotsState k s)) = state-more k s in
       record {
         along = along-next (r .along) h (slotsState (k + 1) s) part at-next (f ∙ ap (λ g. writtenOver (grantByte g ∷ []) (take (length log - k) (drop k log))) grant-is);
         own =

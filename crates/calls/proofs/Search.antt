@@ -18,7 +18,7 @@ use Rattle.arbiter.specs.Table.{requestorAt, noRequestor}
 use Rattle.calls.specs.declared.slot.Grant.{Grant}
 use Rattle.calls.specs.declared.slot.Grant.the-variants.{Nobody, Place}
 use Rattle.calls.specs.Rule.{eligible, firstEligible, later}
-use Rattle.calls.specs.Places.{names}
+use Rattle.calls.specs.Grants.{names}
 
 -- past the accounts nobody is eligible
 eligible-none : (d : ℕ) (r : Requestor) → eligible d r noAccount ≡ true → ⊥
@@ -53,21 +53,25 @@ module _ (d : ℕ) where
   first-none (suc n) (r ∷ rs) [] h = refl
   first-none (suc n) (r ∷ rs) (a ∷ accounts) h = rw (h 0 (omega arith), first-none n rs accounts (λ i j. h (suc i) (omega arith)))
 
-  first-eligible : (p : ℕ) (rs : List Requestor) (accounts : List Account) → firstEligible d rs accounts ≡ Place p → eligible d (requestorAt p rs) (accountAt p accounts) ≡ true
-  unfolding firstEligible later
-  first-eligible p [] accounts e = let z : _≡_ {A = ℕ} 0 1 = cc in absurd (omega arith)
-  first-eligible p (r ∷ rs) [] e = let z : _≡_ {A = ℕ} 0 1 = cc in absurd (omega arith)
-  first-eligible p (r ∷ rs) (a ∷ accounts) e = cases (eligible d r a)
-      (λ q. here q (rw q at e))
-      (λ q. further p (firstEligible d rs accounts) (λ i f. first-eligible i rs accounts f) refl (rw q at e))
-    where
-      here : eligible d r a ≡ true → Place 0 ≡ Place p → eligible d (requestorAt p (r ∷ rs)) (accountAt p (a ∷ accounts)) ≡ true
-      here q f = let z : 0 ≡ p = cc in rw (← z) q
+  -- a place that is found is one of the requestors', and eligible
+  abbrev Found : ℕ → List Requestor → List Account → Type 0
+  Found p rs accounts = (p < length rs) × (eligible d (requestorAt p rs) (accountAt p accounts) ≡ true)
 
-      further : (p : ℕ) (g : Grant) → ((i : ℕ) → firstEligible d rs accounts ≡ Place i → eligible d (requestorAt i rs) (accountAt i accounts) ≡ true)
-          → firstEligible d rs accounts ≡ g → later g ≡ Place p → eligible d (requestorAt p (r ∷ rs)) (accountAt p (a ∷ accounts)) ≡ true
+  pub first-found : (p : ℕ) (rs : List Requestor) (accounts : List Account) → firstEligible d rs accounts ≡ Place p → Found p rs accounts
+  unfolding firstEligible later
+  first-found p [] accounts e = let z : _≡_ {A = ℕ} 0 1 = cc in absurd (omega arith)
+  first-found p (r ∷ rs) [] e = let z : _≡_ {A = ℕ} 0 1 = cc in absurd (omega arith)
+  first-found p (r ∷ rs) (a ∷ accounts) e = cases (eligible d r a)
+      (λ q. here q (rw q at e))
+      (λ q. further p (firstEligible d rs accounts) (λ i f. first-found i rs accounts f) refl (rw q at e))
+    where
+      here : eligible d r a ≡ true → Place 0 ≡ Place p → Found p (r ∷ rs) (a ∷ accounts)
+      here q f = let z : 0 ≡ p = cc in rw (← z) (omega arith, q)
+
+      further : (p : ℕ) (g : Grant) → ((i : ℕ) → firstEligible d rs accounts ≡ Place i → Found i rs accounts)
+          → firstEligible d rs accounts ≡ g → later g ≡ Place p → Found p (r ∷ rs) (a ∷ accounts)
       further p Nobody rest f e = let z : _≡_ {A = ℕ} 0 1 = cc in absurd (omega arith)
-      further p (Place i) rest f e = let z : suc i ≡ p = cc in rw (← z) (rest i f)
+      further p (Place i) rest f e = let z : suc i ≡ p = cc in rw (← z) (omega (arith, rest i f .0), rest i f .1)
 
   -- the place that a grant names is eligible
   pub named-eligible : (n p : ℕ) (rs : List Requestor) (accounts : List Account) (g : Grant) → p < n → g ≡ firstEligible d (take n rs) accounts → names g p ≡ true
@@ -75,4 +79,4 @@ module _ (d : ℕ) where
   named-eligible n p rs accounts Nobody h e q = true-false (sym q)
   named-eligible n p rs accounts (Place i) h e q =
       let same : i ≡ p = eqb-true i p q in
-      rw (getD-take n rs p noRequestor h) at (first-eligible p (take n rs) accounts (sym e ∙ ap Place same))
+      rw (getD-take n rs p noRequestor h) at (first-found p (take n rs) accounts (sym e ∙ ap Place same) .1)

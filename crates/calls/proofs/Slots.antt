@@ -12,7 +12,7 @@ use Rattle.calls.specs.declared.slot.Grant.{Grant}
 use Rattle.calls.specs.declared.slot.Grant.the-variants.{Nobody, Place}
 use Rattle.calls.specs.Rule.{firstEligible, served, passed, after}
 use Rattle.calls.proofs.Head.{slotted, by-head, slotted-no-place, slotted-no-account, first-no-place, first-no-account}
-use Rattle.calls.specs.Places.{toPlace}
+use Rattle.calls.specs.Grants.{toPlace}
 
 pub after-length : (d : ℕ) (g : Grant) (rs : List Requestor) (accounts : List Account) → length (after d g rs accounts) ≡ length accounts
 unfolding after

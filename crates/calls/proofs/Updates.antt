@@ -14,7 +14,7 @@ use Rattle.arbiter.specs.Table.{requestorAt}
 use Rattle.calls.specs.declared.slot.Grant.{Grant}
 use Rattle.calls.specs.declared.slot.Grant.the-variants.{Nobody, Place}
 use Rattle.calls.specs.Rule.{served, passed, after}
-use Rattle.calls.specs.Places.{accountAfter}
+use Rattle.calls.specs.Grants.{accountAfter}
 
 module _ (d : ℕ) where
   pub after-none : (g : Grant) (rs : List Requestor) (accounts : List Account) → accounts ≡ after d g (take 0 rs) accounts

@@ -1,5 +1,5 @@
 -- What a call comes to by the outcome of its checks. Assumes nothing.
-use mathlib.Core.Path.{_≡_}
+use mathlib.Core.Path.{_≡_, refl}
 use mathlib.Core.Bool.{true, false}
 use Prim.Native.Nat.{ℕ, _+_, _≤_, _<_}
 use borrow.Author.Tests.{lt-ltb, le-ltb, lt-leb, le-leb}
@@ -7,14 +7,21 @@ use Rattle.lists.specs.Runs.{Result}
 use Rattle.arbiter.specs.declared.refusals.Refusal.{Refusal}
 use Rattle.arbiter.specs.declared.state.Arbiter.{Arbiter}
 use Rattle.arbiter.specs.Limits.{maxBacklog, maxSlot}
-use Rattle.arbiter.specs.Refusals.{faultless, fault, refusal, gate}
+use Rattle.arbiter.specs.Refusals.{Verdict, faultless, fault, refusal, gate}
 use Rattle.arbiter.specs.Answers.{Answer, refused}
 use Rattle.arbiter.specs.State.{backlog, accountAt, sound}
-use Rattle.calls.specs.Calls.{Call, post, slot, done, ruleVerdict, called}
+use Rattle.calls.specs.Calls.{Call, post, slot, withPost, advanced, done, ruleVerdict, outcome, called}
 
 -- the state handed in, and why
 abbrev pub turnedDown : Arbiter → Refusal → Result Arbiter Answer
 turnedDown s r = record { state = s; answer = refused r }
+
+-- no call changes the table
+pub outcome-table : (v : Verdict) (s : Arbiter) (c : Call) → outcome v s c .state .table ≡ s .table
+unfolding done withPost advanced
+outcome-table faultless s (post p count) = refl
+outcome-table faultless s slot = refl
+outcome-table (fault r) s c = refl
 
 module _ (limit : ℕ) (s : Arbiter) (c : Call) where
   pub called-unsound : sound limit s ≡ false → called limit s c ≡ turnedDown s (refusal 23)

@@ -10,7 +10,7 @@ use Rattle.arbiter.specs.Limits.{maxBacklog, maxSlot}
 use Rattle.arbiter.specs.Refusals.{Verdict, faultless, refusal, refusalOf, gate, resolve}
 use Rattle.arbiter.specs.Answers.{Answer, accepted, granted, idle, refused}
 use Rattle.arbiter.specs.Table.{requestorsOf}
-use Rattle.arbiter.specs.State.{backlog, accountAt, sound}
+use Rattle.arbiter.specs.State.{backlog, accountAt, sound, atPlace}
 use Rattle.calls.specs.declared.slot.Grant.{Grant}
 use Rattle.calls.specs.declared.slot.Grant.the-variants.{Nobody, Place}
 use Rattle.calls.specs.declared.post.PostAnswer.{PostAnswer}
@@ -38,14 +38,14 @@ advanced s g = record {
 }
 
 -- "A post adds a count (0 allowed) to one place's q."
-unfoldable pub more : ℕ → Account → Account
-more count a = record { credit = a .credit; backlog = record { 0 = backlog a + count } }
+unfoldable pub withCount : ℕ → Account → Account
+withCount count a = record { credit = a .credit; backlog = record { 0 = backlog a + count } }
 
-unfoldable pub filled : Arbiter → ℕ → ℕ → Arbiter
-filled s p count = record {
+unfoldable pub withPost : Arbiter → ℕ → ℕ → Arbiter
+withPost s p count = record {
   table = s .table;
   slot = s .slot;
-  accounts = set (s .accounts) p (more count (accountAt p (s .accounts)));
+  accounts = set (s .accounts) p (withCount count (accountAt p (s .accounts)));
 }
 
 -- 5. "The stamp is the present slot number."
@@ -55,16 +55,14 @@ slotAnswer stamp (Place p) = granted stamp p
 
 -- what an accepted call does and answers
 unfoldable pub done : Arbiter → Call → Result Arbiter Answer
-done s (post p count) = record { state = filled s p count; answer = accepted }
+done s (post p count) = record { state = withPost s p count; answer = accepted }
 done s slot = record { state = advanced s (grantOf s); answer = slotAnswer (s .slot .0) (grantOf s) }
 
 -- What turns a call down, tested on the state's own table, q, c and slot number. Post: 11, 21. Slot: 22. 23 is not among them:
 -- from an accepted start it never turns a call down (guarantees, CreditSums), so the rule needs no look at it.
 unfoldable pub ruleVerdict : Arbiter → Call → Verdict
 ruleVerdict s (post p count) =
-    gate (refusal 11) (ltb p (s .table .count))
-    (gate (refusal 21) (leb (backlog (accountAt p (s .accounts)) + count) maxBacklog)
-    faultless)
+    atPlace s p (gate (refusal 21) (leb (backlog (accountAt p (s .accounts)) + count) maxBacklog) faultless)
 ruleVerdict s slot = gate (refusal 22) (ltb (s .slot .0) maxSlot) faultless
 
 -- accepted: carried out whole; refused: the state is the one handed in

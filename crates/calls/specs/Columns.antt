@@ -1,4 +1,4 @@
--- The numbers of the places in columns, as the code lends them from slot to slot. No promise speaks of columns: a slot of a state and
+-- The numbers of the places in columns, as the code lends them from slot to slot. No call's promise speaks of columns: a slot and
 -- a run are held to the rule on rows and accounts, and here the columns are turned into these.
 use mathlib.Core.Path.{_≡_}
 use mathlib.Core.List.{List}

@@ -10,7 +10,7 @@ ghost use mathlib.Core.Bool.{true};
 ghost use Prim.Native.Nat.{_+_, _<_, _^_};
 ghost use Rattle.arbiter.specs.Limits.{maxPlaces};
 ghost use Rattle.calls.specs.Rule.{eligible, served, passed};
-ghost use Rattle.calls.specs.Places.{names, accountAfter};
+ghost use Rattle.calls.specs.Grants.{names, accountAfter};
 ghost use Rattle.calls.specs.Columns.{accountsOf, columnsGrant, columnsAfter, Room};
 
 fn is_eligible(d: u32, r: Requestor, a: Account) -> bool

@@ -15,8 +15,8 @@ use Rattle.leads.specs.Lead.{leadOf, leadVerdict, leadAsked}
 use Rattle.table_bytes.specs.Reading.{next, fieldRead, rowRead, itemsRead, placesRead, numbersRead, lastVerdict, settled, readTable}
 use Rattle.table_bytes.specs.Writing.{tableNumbers, tableBytes, writeVerdict, writeTable}
 use Rattle.calls.specs.Rule.{eligible, later, firstEligible, served, passed, after}
-use Rattle.calls.specs.Places.{toPlace}
-use Rattle.calls.specs.Calls.{grantOf, advanced, more, filled, done, ruleVerdict, called}
+use Rattle.calls.specs.Grants.{toPlace}
+use Rattle.calls.specs.Calls.{grantOf, advanced, withCount, withPost, done, ruleVerdict, called}
 use Rattle.calls.specs.Log.{slotsState, slotsLog, slotsVerdict, runVerdict, run}
 use Rattle.replay.specs.Replay.{callOf, callsOf, madeCalls, answerWords, callsFrom, continued, replay}
 use Rattle.listing.specs.Text.{digitsOf, decimal, spaced, line}
@@ -31,5 +31,5 @@ use Rattle.cases.specs.ListingRows.{headerText, listingRows}
 use Rattle.cases.specs.Cases.{All-pass}
 
 pub all-pass : All-pass
-unfolding total joined every upTo Runs.end Runs.answers lastGroup combined laterGroups numberOf groupsOf numberBytes numberWritten gate then heldTo rowVerdict eachPlace tailVerdict rateSumVerdict tableVerdict roundedUp finish finishVerdict admissionVerdict accountsHold sound placeVerdict opening noState startVerdict start next fieldRead rowRead itemsRead placesRead numbersRead lastVerdict settled readTable tableNumbers tableBytes writeVerdict writeTable figuresVerdict figures inputVerdict leadOf leadVerdict leadAsked slotsState slotsLog slotsVerdict runVerdict run eligible later firstEligible served passed after grantOf advanced more filled done ruleVerdict called callOf callsOf madeCalls answerWords writtenOver callsFrom continued replay toPlace padded tableOf stateOf standsAt waitsThroughout reply tableT tableTShort tableRates tableBurst tableDenominator tableFive tableLate threeEach logNine lateCalls bytesT benchRows tableFirst tableSecond tablePastTwo tablePastLast tableLargest tableBlocked limitRows orderRows stateRows ruleRows replayRows tableLong bytesLong tableFull bytesPlaces tablePast tableWide old unread numberRows readRows writeRows startT unsoundT startFull startThree startLast runRows leadRows figureRows digitsOf decimal spaced line header endLine refusedLine slotLine posted played slotTold slotStep step startRead stateRead begun headed firstStep texts listing headerText listingRows
+unfolding total joined every upTo Runs.end Runs.answers lastGroup combined laterGroups numberOf groupsOf numberBytes numberWritten gate then heldTo rowVerdict eachPlace tailVerdict rateSumVerdict tableVerdict roundedUp finish finishVerdict admissionVerdict accountsHold sound placeVerdict opening noState startVerdict start next fieldRead rowRead itemsRead placesRead numbersRead lastVerdict settled readTable tableNumbers tableBytes writeVerdict writeTable figuresVerdict figures inputVerdict leadOf leadVerdict leadAsked slotsState slotsLog slotsVerdict runVerdict run eligible later firstEligible served passed after grantOf advanced withCount withPost done ruleVerdict called callOf callsOf madeCalls answerWords writtenOver callsFrom continued replay toPlace padded tableOf stateOf standsAt waitsThroughout reply tableT tableTShort tableRates tableBurst tableDenominator tableFive tableLate threeEach logNine lateCalls bytesT benchRows tableFirst tableSecond tablePastTwo tablePastLast tableLargest tableBlocked limitRows orderRows stateRows ruleRows replayRows tableLong bytesLong tableFull bytesPlaces tablePast tableWide old unread numberRows readRows writeRows startT unsoundT startFull startThree startLast runRows leadRows figureRows digitsOf decimal spaced line header endLine refusedLine slotLine posted played slotTold slotStep step startRead stateRead begun headed firstStep texts listing headerText listingRows
 all-pass = refl

@@ -13,7 +13,7 @@ use Rattle.arbiter.specs.Limits.{maxPlaces}
 use Rattle.arbiter.specs.Refusals.{Verdict}
 use Rattle.arbiter.specs.Answers.{Answer}
 use Rattle.arbiter.specs.Table.{requestorAt, requestorsOf, tableOf}
-use Rattle.arbiter.specs.Figures.{burstsAbove, rateLeft, waitOf, finish, admissionVerdict}
+use Rattle.arbiter.specs.Figures.{burstsAbove, rateLeft, wait, finish, admissionVerdict}
 use Rattle.arbiter.specs.State.{credit, backlog, noAccount, accountAt}
 use Rattle.arbiter.specs.Start.{start}
 use Rattle.arbiter.specs.Asked.{FiguresAnswer}
@@ -150,7 +150,7 @@ reply (askingFigures s p j) = told-figures (asked.figures maxPlaces s p j)
 reply (figures t p j) =
     let B = burstsAbove p (requestorsOf t) in
     let R = rateLeft (t .denominator) p (requestorsOf t) in
-    figured B R (waitOf B R) (finish (t .denominator) (requestorsOf t) p j)
+    figured B R (wait (t .denominator) (requestorsOf t) p) (finish (t .denominator) (requestorsOf t) p j)
 reply (floor t before inside p) =
     let s = stateAfter maxPlaces t 0 before in
     let heard = heardFrom maxPlaces s inside in

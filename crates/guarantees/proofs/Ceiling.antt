@@ -18,7 +18,7 @@ use Rattle.guarantees.specs.Counts.{slotsIn, grantsToFirst}
 use Rattle.guarantees.specs.Demand3.{Ceiling}
 use Rattle.guarantees.proofs.Grants.{slotIn, grantToFirst, slot-in, grant-to-first}
 use Rattle.calls.proofs.Credits.{slotted-rise}
-use Rattle.guarantees.proofs.Step.{by-kind, table-stands, filled-credits}
+use Rattle.guarantees.proofs.Step.{by-kind, table-stands, posted-credits}
 use Rattle.calls.proofs.Kept.{sound-credits}
 
 module _ (T : Table) (k C : ℕ) where
@@ -34,7 +34,7 @@ module _ (T : Table) (k C : ℕ) where
     by-kind
         (λ c u a. total credit (take k (u .accounts)) + T .denominator * (grantToFirst k a + g) ≤ C + (slotIn a + t) * total rate (take k (requestorsOf T))) s c
         (λ r e. omega arith)
-        (λ p count e. omega (arith, filled-credits s k p count))
+        (λ p count e. omega (arith, posted-credits s k p count))
         (λ e. rw (slot-in (s .slot .0) (grantOf s), grant-to-first k (s .slot .0) (grantOf s), on)
         (omega (arith, slotted-rise (T .denominator) k (requestorsOf T) (s .accounts)))),
   )

@@ -18,7 +18,7 @@ use Rattle.guarantees.specs.Counts.{grantsTo}
 use Rattle.guarantees.specs.Conservation.{brought, broughtTo, Conservation}
 use Rattle.guarantees.proofs.Grants.{grantTo, grant-to}
 use Rattle.calls.proofs.Slots.{slotted-backlog}
-use Rattle.guarantees.proofs.Step.{by-kind, post-place, filled-backlog}
+use Rattle.guarantees.proofs.Step.{by-kind, post-place, posted-backlog}
 use Rattle.calls.proofs.Kept.{accounts-cover}
 use Rattle.guarantees.proofs.Sound.{sound-next}
 use Rattle.guarantees.proofs.Start.{opening-sound, entered-ruled, answered-ruled}
@@ -35,7 +35,7 @@ pub conserved-next : (limit p : ℕ) (s : Arbiter) (c : Call) → Sound limit s
 unfolding brought advanced grantOf slotted
 conserved-next limit p s c v = by-kind (λ c u a. brought p c a + backlog (accountAt p (s .accounts)) ≡ grantTo p a + backlog (accountAt p (u .accounts))) s c
     (λ r e. omega (arith, brought-refused p c r))
-    (λ q count e. omega (arith, filled-backlog s p q count (omega (arith, post-place s q count e, accounts-cover limit s v))))
+    (λ q count e. omega (arith, posted-backlog s p q count (omega (arith, post-place s q count e, accounts-cover limit s v))))
     (λ e. omega (arith, grant-to p (s .slot .0) (grantOf s), slotted-backlog (s .table .denominator) p (requestorsOf (s .table)) (s .accounts)))
 
 -- any calls, from any sound state

@@ -4,7 +4,7 @@ use Prim.Native.Nat.{ℕ}
 use Rattle.arbiter.specs.Answers.{Answer, accepted, granted, idle, refused}
 use Rattle.calls.specs.declared.slot.Grant.{Grant}
 use Rattle.calls.specs.declared.slot.Grant.the-variants.{Nobody, Place}
-use Rattle.calls.specs.Places.{toPlace, toFirst}
+use Rattle.calls.specs.Grants.{toPlace, toFirst}
 use Rattle.calls.specs.Calls.{slotAnswer}
 use Rattle.guarantees.specs.Counts.{inSlot}
 

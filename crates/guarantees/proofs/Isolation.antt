@@ -23,7 +23,7 @@ use Rattle.arbiter.proofs.Sound.{Sound}
 use Rattle.calls.specs.declared.slot.Grant.{Grant}
 use Rattle.calls.specs.declared.slot.Grant.the-variants.{Nobody, Place}
 use Rattle.calls.specs.Rule.{eligible, later, firstEligible, served, passed, after}
-use Rattle.calls.specs.Calls.{Call, post, slot, grantOf, advanced, filled, slotAnswer, done, ruleVerdict, outcome, ruled, called}
+use Rattle.calls.specs.Calls.{Call, post, slot, grantOf, advanced, withPost, slotAnswer, done, ruleVerdict, outcome, ruled, called}
 use Rattle.guarantees.specs.Counts.{startState}
 use Rattle.guarantees.specs.Isolation.{Isolation, Post-apart, concerns, concerning, view, Shown, shows, shown}
 use Rattle.calls.proofs.Head.{after-later, first-no-account, after-no-account}
@@ -34,7 +34,7 @@ use Rattle.guarantees.proofs.Start.{start-state-sound}
 -- ---- one post
 
 post-outcome : (v : Verdict) (s : Arbiter) (p count i : ℕ) → (i ≡ p → ⊥) → accountAt i (outcome v s (post p count) .state .accounts) ≡ accountAt i (s .accounts)
-unfolding done filled
+unfolding done withPost
 post-outcome faultless s p count i apart = getD-set-other (s .accounts) p i _ noAccount apart
 post-outcome (fault r) s p count i apart = refl
 
@@ -108,13 +108,13 @@ module _ (m : ℕ) (s : Arbiter) where
   unfolding cut advanced
   cut-advanced g = rw take-after
 
-  cut-filled : (p count : ℕ) → p < m → filled (cut m s) p count ≡ cut m (filled s p count)
-  unfolding cut filled
+  cut-filled : (p count : ℕ) → p < m → withPost (cut m s) p count ≡ cut m (withPost s p count)
+  unfolding cut withPost
   cut-filled p count h = rw (getD-take, take-set-lt)
 
-  cut-filled-past : (p count : ℕ) → m ≤ p → cut m (filled s p count) ≡ cut m s
-  unfolding cut filled
-  cut-filled-past p count h = rw take-set-le
+  cut-posted-past : (p count : ℕ) → m ≤ p → cut m (withPost s p count) ≡ cut m s
+  unfolding cut withPost
+  cut-posted-past p count h = rw take-set-le
 
   -- a call that concerns the first m places is judged by what the cut state keeps, and does there what it does on the whole
   cut-verdict : (c : Call) → concerns m c ≡ true → ruleVerdict (cut m s) c ≡ ruleVerdict s c
@@ -140,7 +140,7 @@ module _ (m : ℕ) (s : Arbiter) where
   unfolding concerns
   unseen-ruled c = by-kind (λ c u a. concerns m c ≡ false → cut m u ≡ cut m s) s c
       (λ r v e. refl)
-      (λ p count v e. cut-filled-past p count (ltb-false p m e))
+      (λ p count v e. cut-posted-past p count (ltb-false p m e))
       (λ v e. true-false e)
 
 -- ---- a list of calls

@@ -20,10 +20,11 @@ use Rattle.arbiter.specs.declared.table.Table.{Table}
 use Rattle.arbiter.specs.Answers.{Answer, accepted, granted, idle, refused}
 use Rattle.arbiter.specs.Table.{rate, burst, noRequestor, requestorAt, requestorsOf}
 use Rattle.arbiter.specs.Figures.{burstsAbove, rateLeft}
-use Rattle.leads.specs.Lead.{bytesEqual, leadOf}
+use Rattle.leads.specs.Lead.{bytesEqual, leadOf, leadIn}
+use Rattle.arbiter.proofs.Sound.{sound-open}
 use Rattle.calls.specs.declared.slot.Grant.{Grant}
 use Rattle.calls.specs.declared.slot.Grant.the-variants.{Nobody, Place}
-use Rattle.calls.specs.Places.{toPlace, toFirst}
+use Rattle.calls.specs.Grants.{toPlace, toFirst}
 use Rattle.calls.specs.Calls.{ruled}
 use Rattle.calls.specs.Log.{run}
 use Rattle.calls.proofs.Grants.{to-first-zero}
@@ -31,9 +32,9 @@ use Rattle.calls.proofs.Kept.{fair-table}
 use Rattle.calls.proofs.Logs.{length-log}
 use Rattle.guarantees.specs.Counts.{slotsIn, grantsTo, grantsToFirst}
 use Rattle.guarantees.specs.RunSlots.{slots, answerByte}
-use Rattle.guarantees.specs.Leads.{leadIn, summedLeads, Leads-of-a-run}
+use Rattle.guarantees.specs.Leads.{summedLeads, Leads-of-a-run}
 use Rattle.guarantees.proofs.Grants.{grantTo, grantToFirst}
-use Rattle.guarantees.proofs.Sound.{sound-of, answers-ruled}
+use Rattle.guarantees.proofs.Sound.{answers-ruled}
 use Rattle.guarantees.proofs.Ceiling.{ceiling-from}
 use Rattle.guarantees.proofs.Demand3.{floor-from}
 use Rattle.guarantees.proofs.RunSlots.{passed, run-is-slots}
@@ -155,7 +156,7 @@ module _ (t : Table) (limit : ℕ) (few : t .count ≤ limit) (small : limit ≤
 pub leads-of-a-run : Leads-of-a-run
 leads-of-a-run limit s old small shape e =
     let p = passed limit s old e in
-    let v = sound-of limit s shape (p .sound-is) in
+    let v = sound-open limit s shape (p .sound-is) in
     let inside = slots (length old) in
     let heard = answers ruled s inside in
     let r = run-is-slots limit s old shape e in

@@ -17,13 +17,13 @@ use Rattle.arbiter.specs.Table.{requestorsOf, requestorAt}
 use Rattle.arbiter.specs.Figures.{roundedUp, burstsAbove, rateLeft, finishOf, finish}
 use Rattle.arbiter.specs.State.{credit, backlog, accountAt}
 use Rattle.arbiter.proofs.Checks.{fair}
-use Rattle.arbiter.proofs.Sound.{Sound, places-length, row-at, sound-fair, start-admitted}
+use Rattle.arbiter.proofs.Sound.{Sound, places-length, row-at, sound-fair, start-admitted, sound-open}
 use Rattle.calls.specs.Calls.{Call, ruled}
 use Rattle.guarantees.specs.Counts.{inSlot, slotsIn, grantsTo, firstSlots, Waits, heardFrom}
 use Rattle.guarantees.specs.SharperFloor.{Sharp}
 use Rattle.guarantees.specs.Need.{Pending, GrantedWithin, Need-from-sound, Need-from-start, Own-need}
 use Rattle.guarantees.proofs.Grants.{grantTo, in-any-slot}
-use Rattle.guarantees.proofs.Sound.{sound-of, sound-next, answers-ruled}
+use Rattle.guarantees.proofs.Sound.{sound-next, answers-ruled}
 use Rattle.guarantees.proofs.Start.{start-passes, called-sound, called-table}
 use Rattle.guarantees.proofs.SharperFloor.{own-rate-left, sharper-from}
 use Rattle.guarantees.proofs.Conservation.{conserved-next}
@@ -121,7 +121,7 @@ need-from limit T s on v inside p j slots pending figure reached =
 
 pub need-from-sound : Need-from-sound
 need-from-sound limit s shape e inside p j pending =
-    need-from limit (s .table) s refl (sound-of limit s shape e) inside p j _ pending (omega arith)
+    need-from limit (s .table) s refl (sound-open limit s shape e) inside p j _ pending (omega arith)
 
 pub need-from-start : Need-from-start
 need-from-start limit t first a before inside p j pending =

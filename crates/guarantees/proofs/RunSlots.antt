@@ -3,7 +3,6 @@ use mathlib.Core.Path.{_≡_, refl, ap, ap₂, sym, _∙_}
 use mathlib.Core.Bool.{true}
 use mathlib.Core.List.{List, _∷_, _++_, map}
 use Prim.Native.Nat.{ℕ, zero, suc, _+_, _≤_, _<_}
-use native.Mathlib.Nat.{zero-add, suc-add}
 use native.Mathlib.Omega.{arith}
 use borrow.Author.Tests.{lt-ltb, leb-true, le-leb}
 use lib.ListN.{length, length-append}
@@ -16,14 +15,14 @@ use Rattle.arbiter.specs.Answers.{accepted, refused}
 use Rattle.arbiter.specs.State.{sound, Shaped}
 use Rattle.arbiter.specs.Input.{inputVerdict}
 use Rattle.arbiter.proofs.Checks.{gate-open, then-open}
-use Rattle.arbiter.proofs.Sound.{sound-shut}
+use Rattle.arbiter.proofs.Sound.{sound-shut, sound-open}
 use Rattle.calls.specs.Calls.{slot, grantOf, advanced, slotAnswer, done, ruleVerdict, ruled}
 use Rattle.calls.specs.Log.{grantByte, slotsState, slotsLog, slotsVerdict, runVerdict, Outcome, run}
-use Rattle.calls.proofs.Logs.{slots-sound}
+use Rattle.calls.proofs.Logs.{slots-sound, state-adds, log-adds}
 use Rattle.guarantees.specs.Counts.{slotsIn, stateAfter}
 use Rattle.guarantees.specs.RunSlots.{slots, answerByte, Run-is-slots, Run-from-start, Run-splits}
 use Rattle.guarantees.proofs.Grants.{slotIn, in-slot-answer, slot-in}
-use Rattle.guarantees.proofs.Sound.{sound-of, end-ruled, answers-ruled}
+use Rattle.guarantees.proofs.Sound.{end-ruled, answers-ruled}
 use Rattle.guarantees.proofs.Start.{entered-sound, entered-ruled}
 
 -- ---- slots of the rule
@@ -88,7 +87,7 @@ accept-run limit s old ok short below = rw (ok, le-leb (length old) maxInput sho
 pub run-is-slots : Run-is-slots
 run-is-slots limit s old shape e =
     let p = passed limit s old e in
-    let v = sound-of limit s shape (p .sound-is) in
+    let v = sound-open limit s shape (p .sound-is) in
     let r = slots-ruled (length old) s (p .below) in
     let heard = answers-ruled limit s (slots (length old)) v in
     record {
@@ -106,21 +105,11 @@ run-from-start limit t first a before old e =
 
 -- ---- one run and then another
 
-state-adds : (a b : ℕ) (s : Arbiter) → slotsState (a + b) s ≡ slotsState b (slotsState a s)
-unfolding slotsState
-state-adds zero b s = rw (zero-add b)
-state-adds (suc a) b s = rw (suc-add a b) (state-adds a b (advanced s (grantOf s)))
-
-log-adds : (a b : ℕ) (s : Arbiter) → slotsLog (a + b) s ≡ slotsLog a s ++ slotsLog b (slotsState a s)
-unfolding slotsState slotsLog
-log-adds zero b s = rw (zero-add b)
-log-adds (suc a) b s = rw (suc-add a b) (ap (λ l. grantByte (grantOf s) ∷ l) (log-adds a b (advanced s (grantOf s))))
-
 pub run-splits : Run-splits
 run-splits limit s one two shape e =
     let p = passed limit s (one ++ two) e in
     let both : length (one ++ two) ≡ length one + length two = length-append one two in
-    let v = sound-of limit s shape (p .sound-is) in
+    let v = sound-open limit s shape (p .sound-is) in
     let middle = slots-sound limit (length one) s v (omega (arith, p .below)) in
     let first = accept-run limit s one (p .sound-is) (omega (arith, p .short)) (omega (arith, p .below)) in
     let second = accept-run limit (slotsState (length one) s) two (sound-shut limit _ (middle .0)) (omega (arith, p .short)) (omega (arith, p .below, middle .1)) in

@@ -15,19 +15,19 @@ use Rattle.arbiter.specs.declared.state.Arbiter.{Arbiter}
 use Rattle.arbiter.specs.Table.{requestorsOf, requestorAt}
 use Rattle.arbiter.specs.Figures.{burstsAbove, ratesAbove, rateLeft}
 use Rattle.arbiter.specs.State.{credit, backlog, accountAt}
-use Rattle.arbiter.proofs.Sound.{Sound, rates-most, sound-fair}
+use Rattle.arbiter.proofs.Sound.{Sound, rates-most, sound-fair, sound-open}
 use Rattle.calls.specs.Rule.{firstEligible}
 use Rattle.calls.specs.Calls.{Call, grantOf, advanced, ruled}
 use Rattle.calls.proofs.Head.{slotted}
-use Rattle.calls.specs.Places.{toPlace}
+use Rattle.calls.specs.Grants.{toPlace}
 use Rattle.guarantees.specs.Counts.{slotsIn, grantsTo, Waits, WaitsAt}
 use Rattle.guarantees.specs.SharperFloor.{Sharp, Sharper, Sharper-floor}
 use Rattle.guarantees.proofs.Grants.{slotIn, grantTo, slot-in, grant-to, slot-meets}
 use Rattle.calls.proofs.Credits.{Roomy, slotted-rise, slotted-within}
 use Rattle.guarantees.proofs.Turns.{Turn, above, own, short, turn}
-use Rattle.guarantees.proofs.Step.{by-kind, table-stands, filled-credits, filled-credit}
+use Rattle.guarantees.proofs.Step.{by-kind, table-stands, posted-credits, posted-credit}
 use Rattle.calls.proofs.Kept.{places-count, sound-roomy, sound-credits}
-use Rattle.guarantees.proofs.Sound.{sound-of, sound-next, answers-ruled}
+use Rattle.guarantees.proofs.Sound.{sound-next, answers-ruled}
 use Rattle.guarantees.proofs.CreditSums.{rate-left}
 
 -- The invariant, over numbers: D, the place's n, R, B and its credit on entry.
@@ -102,7 +102,7 @@ kept-next limit T p c₀ place t g s c waits (on, v, held) = (
   sound-next limit s c v,
   by-kind (λ c u a. WaitsAt p s a → At T p c₀ (slotIn a + t) (grantTo p a + g) (u .accounts)) s c
       (λ r e w. rw (zero-add t, zero-add g) held)
-      (λ q count e w. rw (zero-add t, zero-add g, filled-credits s p q count, filled-credit s p q count) held)
+      (λ q count e w. rw (zero-add t, zero-add g, posted-credits s p q count, posted-credit s p q count) held)
       (λ e w. rw (slot-in (s .slot .0) (grantOf s), grant-to p (s .slot .0) (grantOf s), on)
       (at-slot T p c₀ t g place (s .accounts) (rw on at (places-count limit s v)) (rw on at (rates-most limit (s .table) (sound-fair limit s v) p))
       (rw on at (sound-roomy limit s v)) (slot-meets _ (s .slot .0) (grantOf s) w) held))
@@ -126,5 +126,5 @@ module _ (limit : ℕ) (T : Table) (s : Arbiter) (on : s .table ≡ T) (v : Soun
 
 pub sharper-floor : Sharper-floor
 sharper-floor limit s shape e inside p place waits =
-    let v = sound-of limit s shape e in
+    let v = sound-open limit s shape e in
     rw (answers-ruled limit s inside v) (sharper-from limit (s .table) s refl v p (omega arith) inside waits)

@@ -1,6 +1,5 @@
 -- A sound state stays sound under the rule; so no call from it meets 23, and its calls are the rule's. Assumes nothing.
 use mathlib.Core.Path.{_≡_, _∙_}
-use mathlib.Core.Bool.{true}
 use mathlib.Core.List.{List}
 use Prim.Native.Nat.{ℕ, _<_}
 use native.Mathlib.Omega.{arith}
@@ -13,20 +12,16 @@ use Rattle.lists.specs.Runs.{end, answers}
 use Rattle.lists.proofs.Runs.{keeps, same-end, same-answers}
 use Rattle.arbiter.specs.declared.state.Arbiter.{Arbiter}
 use Rattle.arbiter.specs.Refusals.{faultless, gate}
-use Rattle.arbiter.specs.State.{sound, Shaped}
-use Rattle.arbiter.proofs.Sound.{Sound, sound-open, sound-shut}
-use Rattle.calls.specs.Calls.{Call, post, more, filled, ruleVerdict, ruled, called}
+use Rattle.arbiter.proofs.Sound.{Sound, sound-shut}
+use Rattle.calls.specs.Calls.{Call, post, withCount, withPost, ruleVerdict, ruled, called}
 use Rattle.calls.proofs.Kept.{accounts-cover, advanced-sound}
-use Rattle.guarantees.proofs.Step.{by-kind, post-place, post-fits, filled-credits, filled-backlog, slot-below}
+use Rattle.guarantees.proofs.Step.{by-kind, post-place, post-fits, posted-credits, posted-backlog, slot-below}
 
 module _ (limit : ℕ) (s : Arbiter) where
-  pub sound-of : Shaped limit s → sound limit s ≡ true → Sound limit s
-  sound-of shape e = sound-open limit s (shape .rows) (shape .accounts) e
-
   module _ (v : Sound limit s) where
-    filled-sound : (p count : ℕ) → ruleVerdict s (post p count) ≡ faultless → Sound limit (filled s p count)
-    unfolding filled more
-    filled-sound p count e =
+    posted-sound : (p count : ℕ) → ruleVerdict s (post p count) ≡ faultless → Sound limit (withPost s p count)
+    unfolding withPost withCount
+    posted-sound p count e =
         let inside : p < s .table .count = post-place s p count e in
         let held : p < length (s .accounts) = omega (arith, accounts-cover limit s v) in
         record {
@@ -34,17 +29,17 @@ module _ (limit : ℕ) (s : Arbiter) where
           accounts = length-set (s .accounts) p _ ∙ v .accounts;
           passes = v .passes;
           slot-most = v .slot-most;
-          backlog-most = λ q h. rw (filled-backlog s q p count held) (cases (eqb p q)
+          backlog-most = λ q h. rw (posted-backlog s q p count held) (cases (eqb p q)
               (λ same. rw same (omega (arith, rw (eqb-true p q same) at (post-fits s p count e))))
               (λ apart. rw apart (omega (arith, v .backlog-most q h))));
-          sums = λ k. omega (arith, filled-credits s k p count, v .sums k);
+          sums = λ k. omega (arith, posted-credits s k p count, v .sums k);
           clear = rw (drop-set-lt (s .table .count) (s .accounts) p _ inside) (v .clear);
         }
 
 module _ (limit : ℕ) where
   -- every call keeps a state sound
   pub sound-next : (s : Arbiter) (c : Call) → Sound limit s → Sound limit (ruled s c .state)
-  sound-next s c v = by-kind (λ c u a. Sound limit u) s c (λ r e. v) (filled-sound limit s v) (λ e. advanced-sound limit s v (slot-below s e))
+  sound-next s c v = by-kind (λ c u a. Sound limit u) s c (λ r e. v) (posted-sound limit s v) (λ e. advanced-sound limit s v (slot-below s e))
 
   pub sound-end : (s : Arbiter) (calls : List Call) → Sound limit s → Sound limit (end ruled s calls)
   sound-end = keeps ruled (Sound limit) sound-next

@@ -14,7 +14,7 @@ use Rattle.arbiter.specs.Answers.{Answer}
 use Rattle.arbiter.specs.Start.{opening}
 use Rattle.calls.specs.declared.slot.Grant.{Grant}
 use Rattle.calls.specs.declared.slot.Grant.the-variants.{Nobody, Place}
-use Rattle.calls.specs.Calls.{Call, grantOf, advanced, filled, slotAnswer, ruled}
+use Rattle.calls.specs.Calls.{Call, grantOf, advanced, withPost, slotAnswer, ruled}
 use Rattle.guarantees.specs.Counts.{slotsIn}
 use Rattle.guarantees.specs.Stamps.{Stamps, Distinct-stamps, stampsIn, countedFrom}
 use Rattle.guarantees.proofs.Step.{by-kind}
@@ -35,7 +35,7 @@ slot-in-front n (Place p) heard h = rw one-add (ap (λ l. n ∷ l) h)
 -- any other call in front takes none
 call-in-front : (s : Arbiter) (c : Call) (heard : List Answer)
     → StampedFrom (ruled s c .state .slot .0) heard → StampedFrom (s .slot .0) (ruled s c .answer ∷ heard)
-unfolding stampsIn total filled advanced
+unfolding stampsIn total withPost advanced
 call-in-front s c = by-kind
     (λ c u a. (heard : List Answer) → StampedFrom (u .slot .0) heard → StampedFrom (s .slot .0) (a ∷ heard)) s c
     (λ r v heard h. rw zero-add h)

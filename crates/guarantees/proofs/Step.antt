@@ -20,13 +20,14 @@ use Rattle.arbiter.specs.State.{credit, backlog, noAccount, accountAt}
 use Rattle.arbiter.proofs.Checks.{faultless-fault, gate-open, gate-not}
 use Rattle.calls.specs.declared.slot.Grant.{Grant}
 use Rattle.calls.specs.declared.slot.Grant.the-variants.{Nobody, Place}
-use Rattle.calls.specs.Calls.{Call, post, slot, grantOf, advanced, more, filled, slotAnswer, done, ruleVerdict, outcome, ruled}
+use Rattle.calls.specs.Calls.{Call, post, slot, grantOf, advanced, withCount, withPost, slotAnswer, done, ruleVerdict, outcome, ruled}
+use Rattle.calls.proofs.Verdicts.{outcome-table}
 
 -- P of a call, the state that it hands back and its answer
 module _ (P : Call → Arbiter → Answer → Type 0) (s : Arbiter) where
   by-verdict : (c : Call) (v : Verdict) → ruleVerdict s c ≡ v
       → ((r : Refusal) → ruleVerdict s c ≡ fault r → P c s (refused r))
-      → ((p count : ℕ) → ruleVerdict s (post p count) ≡ faultless → P (post p count) (filled s p count) accepted)
+      → ((p count : ℕ) → ruleVerdict s (post p count) ≡ faultless → P (post p count) (withPost s p count) accepted)
       → (ruleVerdict s slot ≡ faultless → P slot (advanced s (grantOf s)) (slotAnswer (s .slot .0) (grantOf s)))
       → P c (outcome v s c .state) (outcome v s c .answer)
   unfolding done
@@ -36,7 +37,7 @@ module _ (P : Call → Arbiter → Answer → Type 0) (s : Arbiter) where
 
   pub by-kind : (c : Call)
       → ((r : Refusal) → ruleVerdict s c ≡ fault r → P c s (refused r))
-      → ((p count : ℕ) → ruleVerdict s (post p count) ≡ faultless → P (post p count) (filled s p count) accepted)
+      → ((p count : ℕ) → ruleVerdict s (post p count) ≡ faultless → P (post p count) (withPost s p count) accepted)
       → (ruleVerdict s slot ≡ faultless → P slot (advanced s (grantOf s)) (slotAnswer (s .slot .0) (grantOf s)))
       → P c (ruled s c .state) (ruled s c .answer)
   unfolding ruled
@@ -45,8 +46,8 @@ module _ (P : Call → Arbiter → Answer → Type 0) (s : Arbiter) where
 module _ (s : Arbiter) where
   -- no call changes the table
   pub table-stands : (c : Call) → ruled s c .state .table ≡ s .table
-  unfolding filled advanced
-  table-stands c = by-kind (λ c u a. u .table ≡ s .table) s c (λ r e. refl) (λ p count e. refl) (λ e. refl)
+  unfolding ruled
+  table-stands c = outcome-table (ruleVerdict s c) s c
 
   -- an accepted post
   pub post-place : (p count : ℕ) → ruleVerdict s (post p count) ≡ faultless → p < s .table .count
@@ -58,21 +59,21 @@ module _ (s : Arbiter) where
   post-fits p count e = leb-true _ _ (gate-open _ _ _ (gate-open _ _ _ e .1) .0)
 
   -- it leaves every credit
-  pub filled-credits : (k p count : ℕ) → total credit (take k (filled s p count .accounts)) ≡ total credit (take k (s .accounts))
-  unfolding filled more
-  filled-credits k p count = total-take-set credit noAccount k p (more count (accountAt p (s .accounts))) (s .accounts) refl
+  pub posted-credits : (k p count : ℕ) → total credit (take k (withPost s p count .accounts)) ≡ total credit (take k (s .accounts))
+  unfolding withPost withCount
+  posted-credits k p count = total-take-set credit noAccount k p (withCount count (accountAt p (s .accounts))) (s .accounts) refl
 
-  pub filled-credit : (q p count : ℕ) → credit (accountAt q (filled s p count .accounts)) ≡ credit (accountAt q (s .accounts))
-  unfolding filled more
-  filled-credit q p count = at-set credit noAccount q p (more count (accountAt p (s .accounts))) (s .accounts) refl
+  pub posted-credit : (q p count : ℕ) → credit (accountAt q (withPost s p count .accounts)) ≡ credit (accountAt q (s .accounts))
+  unfolding withPost withCount
+  posted-credit q p count = at-set credit noAccount q p (withCount count (accountAt p (s .accounts))) (s .accounts) refl
 
   -- and adds its count to the one backlog
-  pub filled-backlog : (q p count : ℕ) → p < length (s .accounts)
-      → backlog (accountAt q (filled s p count .accounts)) ≡ pick (eqb p q) count 0 + backlog (accountAt q (s .accounts))
-  unfolding filled more
-  filled-backlog q p count held = cases (eqb p q)
-      (λ same. rw (same, ← eqb-true p q same, getD-set-same (s .accounts) p (more count (accountAt p (s .accounts))) noAccount held) (omega arith))
-      (λ apart. rw (apart, getD-set-other (s .accounts) p q (more count (accountAt p (s .accounts))) noAccount (λ e. eqb-false p q apart (sym e))) (omega arith))
+  pub posted-backlog : (q p count : ℕ) → p < length (s .accounts)
+      → backlog (accountAt q (withPost s p count .accounts)) ≡ pick (eqb p q) count 0 + backlog (accountAt q (s .accounts))
+  unfolding withPost withCount
+  posted-backlog q p count held = cases (eqb p q)
+      (λ same. rw (same, ← eqb-true p q same, getD-set-same (s .accounts) p (withCount count (accountAt p (s .accounts))) noAccount held) (omega arith))
+      (λ apart. rw (apart, getD-set-other (s .accounts) p q (withCount count (accountAt p (s .accounts))) noAccount (λ e. eqb-false p q apart (sym e))) (omega arith))
 
   -- an accepted slot
   pub slot-below : ruleVerdict s slot ≡ faultless → s .slot .0 < maxSlot

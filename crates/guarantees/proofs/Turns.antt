@@ -13,7 +13,7 @@ use Rattle.calls.specs.declared.slot.Grant.the-variants.{Nobody}
 use Rattle.calls.specs.Rule.{firstEligible, served, after}
 use Rattle.calls.proofs.Accounts.{passed-waiting}
 use Rattle.calls.proofs.Head.{slotted, Passed, by-head}
-use Rattle.calls.specs.Places.{toPlace, toFirst}
+use Rattle.calls.specs.Grants.{toPlace, toFirst}
 use Rattle.calls.proofs.Grants.{to-first-zero}
 
 pub data Turn (d p : ℕ) (rs : List Requestor) (accounts : List Account) : Type 0 where

@@ -13,7 +13,7 @@ use Rattle.arbiter.specs.State.{backlog, accountAt}
 use Rattle.arbiter.specs.Start.{start}
 use Rattle.calls.specs.declared.slot.Grant.{Grant}
 use Rattle.calls.specs.declared.slot.Grant.the-variants.{Nobody, Place}
-use Rattle.calls.specs.Places.{toPlace, toFirst}
+use Rattle.calls.specs.Grants.{toPlace, toFirst}
 use Rattle.calls.specs.Calls.{Call, ruled, called}
 
 -- f of the grant of an accepted slot, x of any other answer

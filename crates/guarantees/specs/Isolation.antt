@@ -17,7 +17,8 @@ use Rattle.arbiter.specs.State.{accountAt}
 use Rattle.calls.specs.Calls.{Call, post, slot, called}
 use Rattle.guarantees.specs.Counts.{Accepted, startState}
 
--- "A post to a place changes no grant, credit or backlog of the places above it": nor any other account than its own
+-- "A post to a place changes no grant, credit or backlog of the places above it." Here: a post leaves every account but that of its own
+-- place, above it or below. What it does to later grants is said further down, of whole lists of calls.
 abbrev pub Post-apart : Type 0
 Post-apart = (limit : ℕ) (s : Arbiter) (p count i : ℕ) → (i ≡ p → ⊥)
     → accountAt i (called limit s (post p count) .state .accounts) ≡ accountAt i (s .accounts)

@@ -13,7 +13,7 @@ use Rattle.arbiter.specs.Answers.{accepted}
 use Rattle.arbiter.specs.Table.{burst, requestorAt, requestorsOf}
 use Rattle.arbiter.specs.Figures.{burstsAbove, rateLeft}
 use Rattle.arbiter.specs.State.{credit, accountAt, Shaped}
-use Rattle.leads.specs.Lead.{leadOf}
+use Rattle.leads.specs.Lead.{leadIn}
 use Rattle.calls.specs.Log.{run}
 use Rattle.guarantees.specs.Counts.{Waits}
 use Rattle.guarantees.specs.RunSlots.{slots}
@@ -21,10 +21,6 @@ use Rattle.guarantees.specs.RunSlots.{slots}
 -- a is at most b: b is a and some natural number
 abbrev pub AtMost : ℤ → ℤ → Type 0
 AtMost a b = (x : ℕ) × (a +ℤ pos x ≡ b)
-
--- the lead of place p in a table
-abbrev pub leadIn : Table → ℕ → List ℕ → ℤ
-leadIn t p log = leadOf (t .denominator) (requestorAt p (t .requestors) .rate) p log
 
 -- the summed leads of the first k places
 unfoldable pub summedLeads : Table → ℕ → List ℕ → ℤ

@@ -18,7 +18,8 @@ use Rattle.guarantees.specs.Counts.{inSlot, slotsIn, Accepted, stateAfte
 abbrev pub slots : ℕ → List Call
 slots k = replicate k slot
 
--- the byte of an accepted slot's answer; that there is no other among them is said beside it
+-- the byte of a slot's answer: the place granted, or 255 for idle. An answer of another kind would be 255 too; `all-accepted` says that
+-- there is none.
 abbrev pub answerByte : Answer → ℕ
 answerByte = inSlot 255 grantByte
 

@@ -7,6 +7,7 @@ use lib.ListN.{length}
 use Rattle.lists.specs.Choices.{pick}
 use Rattle.lists.specs.Sums.{total}
 use Rattle.arbiter.specs.declared.refusals.Refusal.{Refusal}
+use Rattle.arbiter.specs.declared.table.Table.{Table}
 use Rattle.arbiter.specs.declared.state.Arbiter.{Arbiter}
 use Rattle.arbiter.specs.Refusals.{Verdict, refusalOf, then, resolve}
 use Rattle.arbiter.specs.Table.{requestorAt}
@@ -23,6 +24,10 @@ bytesEqual p log = total (λ x. pick (eqb x p) 1 0) log
 unfoldable pub leadOf : (d n p : ℕ) → List ℕ → ℤ
 leadOf d n p log = pos (d * bytesEqual p log) -ℤ pos (n * length log)
 
+-- the lead of place p in a table
+abbrev pub leadIn : Table → ℕ → List ℕ → ℤ
+leadIn t p log = leadOf (t .denominator) (requestorAt p (t .requestors) .rate) p log
+
 pub data LeadAnswer : Type 0 where
   lead : ℤ → LeadAnswer
   refused : Refusal → LeadAnswer
@@ -34,7 +39,7 @@ leadVerdict limit s p bytes = then (placeVerdict limit s p) (inputVerdict bytes)
 unfoldable pub leadAsked : ℕ → Arbiter → (place : ℕ) → List ℕ → LeadAnswer
 leadAsked limit s p log =
     resolve (leadVerdict limit s p (length log))
-    (lead (leadOf (s .table .denominator) (requestorAt p (s .table .requestors) .rate) p log))
+    (lead (leadIn (s .table) p log))
     refused
 
 -- the code's answer in these values

@@ -1,19 +1,19 @@
 -- The counts of a slot: read one after the other, posted one after the other, and then the slot. Assumes nothing.
-use mathlib.Core.Path.{_≡_, refl, ap, sym, _∙_}
+use mathlib.Core.Path.{_≡_, refl, sym, _∙_}
 use mathlib.Core.List.{List, [], _∷_, _++_}
-use Prim.Native.Nat.{ℕ, zero, suc, _+_, _-_, _≤_, _<_}
+use Prim.Native.Nat.{ℕ, suc, _+_, _-_, _≤_, _<_}
 use native.Mathlib.Numerals.{add-one}
 use native.Mathlib.Omega.{arith}
 use borrow.Rule.Slice.PartAt.{part-to-end}
-use lib.ListN.{length, getD, take, drop, set, drop-of-length-le, length-append, length-drop}
-use lib.Seq.{take-at, drop-drop}
+use lib.ListN.{length, getD, take, drop, set, drop-of-length-le, length-drop}
+use lib.Seq.{take-at, drop-drop, drop-cons}
 use Rattle.lists.specs.Overwriting.{writtenOver}
 use Rattle.lists.specs.Runs.{Result}
 use Rattle.lists.proofs.Overwriting.{stored-behind, length-over}
 use Rattle.arbiter.specs.declared.refusals.Refusal.{Refusal}
 use Rattle.arbiter.specs.declared.state.Arbiter.{Arbiter}
 use Rattle.arbiter.specs.Answers.{Answer, accepted, refused}
-use Rattle.table_bytes.specs.Reading.{Read, read, stop, numberRead, itemsRead}
+use Rattle.table_bytes.specs.Reading.{Read, read, stop, numberRead}
 use Rattle.table_bytes.proofs.Readings.{Done, done-none, done-next, done-stop, done-end}
 use Rattle.calls.specs.Calls.{post, slot, called}
 use Rattle.listing.specs.Listing.{countsRead, posted, played}
@@ -80,12 +80,6 @@ pub record Posting (limit : ℕ) (first : Arbiter) (counts : List ℕ) (s : Arbi
 pub posting-none : (limit : ℕ) (first : Arbiter) (counts : List ℕ) → Posting limit first counts first 0
 posting-none limit first counts = record { within = omega arith; same = refl }
 
--- the counts from p on: the one at p, and those behind it
-drop-next : (counts : List ℕ) (p : ℕ) → p < length counts → drop p counts ≡ getD counts p 0 ∷ drop (suc p) counts
-drop-next [] p h = absurd (omega arith)
-drop-next (x ∷ counts) zero h = refl
-drop-next (x ∷ counts) (suc p) h = drop-next counts p (omega arith)
-
 posted-accepted : (limit : ℕ) (s : Arbiter) (p count : ℕ) (counts : List ℕ) (done : Result Arbiter Answer) → called limit s (post p count) ≡ done → done .answer ≡ accepted
     → posted limit s p (count ∷ counts) ≡ posted limit (done .state) (suc p) counts
 unfolding posted
@@ -102,12 +96,12 @@ module _ {limit : ℕ} {first : Arbiter} {counts : List ℕ} {s : Arbiter} {p : 
   pub posting-next : done .answer ≡ accepted → Posting limit first counts (done .state) (p + 1)
   posting-next a = record {
     within = omega arith;
-    same = sofar .same ∙ rw (drop-next counts p h, add-one p) (posted-accepted limit s p (getD counts p 0) (drop (suc p) counts) done (sym e) a);
+    same = sofar .same ∙ rw (drop-cons counts p 0 h, add-one p) (posted-accepted limit s p (getD counts p 0) (drop (suc p) counts) done (sym e) a);
   }
 
   -- the post is refused
   pub posting-stop : (why : Refusal) → done .answer ≡ refused why → done ≡ posted limit first 0 counts
-  posting-stop why a = sym (sofar .same ∙ rw (drop-next counts p h) (posted-refused limit s p (getD counts p 0) (drop (suc p) counts) done why (sym e) a))
+  posting-stop why a = sym (sofar .same ∙ rw (drop-cons counts p 0 h) (posted-refused limit s p (getD counts p 0) (drop (suc p) counts) done why (sym e) a))
 
 -- all are posted
 pub posting-end : {limit : ℕ} {first : Arbiter} {counts : List ℕ} {s : Arbiter} {p : ℕ} → Posting limit first counts s p → length counts ≤ p

@@ -14,7 +14,6 @@ use Rattle.groups.specs.declared.reading.Reading as number
 use Rattle.groups.specs.declared.reading.Reading.the-variants.{Number, Ended, Malformed}
 use Rattle.groups.specs.Groups.{numberOf}
 use Rattle.groups.proofs.Readings.{number-takes, number-some}
-use Rattle.arbiter.specs.declared.refusals.Refusal.{Refusal}
 use Rattle.arbiter.specs.declared.state.Arbiter.{Arbiter}
 use Rattle.arbiter.specs.Refusals.{Verdict, faultless, fault, refusal, gate, resolve}
 use Rattle.arbiter.specs.Answers.{Answer, accepted, granted, idle, refused, unless}

@@ -6,31 +6,33 @@ use mathlib.Core.List.{List, [], _∷_, _++_}
 use Prim.Native.Nat.{ℕ, suc, _+_, _*_, _≤_, _<_}
 use native.Mathlib.Omega.{arith}
 use borrow.Author.Tests.{le-leb, lt-leb, eq-eqb, ne-eqb}
-use lib.ListN.{length, take, drop, length-append, length-take}
+use lib.ListN.{length, take, drop, length-take}
 use lib.Seq.{take-at}
 use Rattle.lists.specs.Sums.{joined}
 use Rattle.lists.specs.Overwriting.{writtenOver}
 use Rattle.lists.specs.Runs.{Result}
 use Rattle.lists.proofs.Sums.{total-most, length-joined}
 use Rattle.arbiter.specs.declared.refusals.Refusal.{Refusal}
+use Rattle.arbiter.specs.declared.table.Table.{Table}
 use Rattle.arbiter.specs.declared.state.Arbiter.{Arbiter}
 use Rattle.arbiter.specs.Limits.{maxPlaces}
-use Rattle.arbiter.specs.Refusals.{Verdict, faultless, fault, refusal, gate}
+use Rattle.arbiter.specs.Refusals.{refusal, gate}
 use Rattle.arbiter.specs.Answers.{Answer, accepted, granted, idle, refused, unless}
 use Rattle.arbiter.specs.State.{sound, noAccount, accountAt}
 use Rattle.arbiter.specs.Start.{noState}
 use Rattle.arbiter.proofs.Checks.{fair}
 use Rattle.arbiter.proofs.Sound.{sound-table}
-use Rattle.table_bytes.specs.Reading.{Read, read, stop}
+use Rattle.table_bytes.specs.Reading.{read, stop}
 use Rattle.calls.specs.declared.slot.Grant.{Grant}
 use Rattle.calls.specs.declared.slot.Grant.the-variants.{Nobody, Place}
-use Rattle.calls.specs.Calls.{Call, post, slot, done, called, outcome, ruleVerdict, filled, advanced, grantOf}
-use Rattle.listing.specs.Text.{maxEarlier, decimal, spaced, line}
+use Rattle.calls.specs.Calls.{Call, post, slot, done, called, ruleVerdict}
+use Rattle.calls.proofs.Verdicts.{outcome-table}
+use Rattle.listing.specs.Text.{decimal, spaced, line}
 use Rattle.listing.specs.Lines.{header, endLine, refusedLine, placeItem, creditItems, slotLine}
 use Rattle.listing.specs.Listing.{Step, more, last, countsRead, posted, played, slotTold, slotStep, step, begun, headed, firstStep}
-use Rattle.listing.specs.Room.{itemRoom, lineRoom, Outcome, told, noRoom, textOf, written, inBuffer}
+use Rattle.listing.specs.Room.{itemRoom, lineRoom, told, noRoom, written, inBuffer}
 use Rattle.listing.proofs.Digits.{decimal-few}
-use Rattle.listing.proofs.Writing.{spacedCredit, creditsTo, credits-all, item-length, two-length, slot-length}
+use Rattle.listing.proofs.Writing.{spacedCredit, credits-all, item-length, two-length, slot-length}
 
 -- ---- every text fits
 
@@ -62,11 +64,11 @@ credits-few s h =
     let count : length accounts ≤ n = simp length-take (omega arith) in
     omega (arith, ap length (credits-all s), length-joined spacedCredit accounts, few, count)
 
-slot-few : (stamp : ℕ) (g : Grant) (after : Arbiter) → after .table .count ≤ maxPlaces → length (slotLine stamp g after) ≤ lineRoom
+slot-few : (stamp : ℕ) (g : Grant) (after : Arbiter) → after .table .count ≤ maxPlaces → length (slotLine stamp g after) ≤ lineRoom maxPlaces
 slot-few stamp g after h = omega (arith, slot-length stamp g after, decimal-few stamp, place-few g, credits-few after h)
 
 -- in a buffer that has room for the longest line
-module _ {room : ℕ} (h : lineRoom ≤ room) where
+module _ {room : ℕ} (h : lineRoom maxPlaces ≤ room) where
   pub refused-fits : (r : Refusal) → length (refusedLine r) ≤ room
   refused-fits r = omega (arith, refused-few r)
 
@@ -98,35 +100,30 @@ wrote-inside text e h = omega arith
 
 -- a call keeps the table
 called-table : (limit : ℕ) (s : Arbiter) (c : Call) → called limit s c .state .table ≡ s .table
-unfolding called done filled advanced
-called-table limit s c = by-verdict (gate (refusal 23) (sound limit s) (ruleVerdict s c)) c where
-  by-verdict : (v : Verdict) (c : Call) → outcome v s c .state .table ≡ s .table
-  by-verdict faultless (post p count) = refl
-  by-verdict faultless slot = refl
-  by-verdict (fault r) c = refl
+unfolding called
+called-table limit s c = outcome-table (gate (refusal 23) (sound limit s) (ruleVerdict s c)) s c
+
+unless-table : (t : Table) (one others : Result Arbiter Answer) (a : Answer) → one .state .table ≡ t → others .state .table ≡ t
+    → unless a (λ why. one) others .state .table ≡ t
+unless-table t one others accepted e f = f
+unless-table t one others (granted stamp place) e f = f
+unless-table t one others (idle stamp) e f = f
+unless-table t one others (refused why) e f = e
 
 posted-table : (limit : ℕ) (s : Arbiter) (p : ℕ) (counts : List ℕ) → posted limit s p counts .state .table ≡ s .table
 unfolding posted
 posted-table limit s p [] = refl
 posted-table limit s p (count ∷ counts) =
-    by-answer (called limit s (post p count)) (posted limit (called limit s (post p count) .state) (suc p) counts) (called limit s (post p count) .answer)
-    (called-table limit s (post p count)) (posted-table limit (called limit s (post p count) .state) (suc p) counts ∙ called-table limit s (post p count)) where
-      by-answer : (one others : Result Arbiter Answer) (a : Answer) → one .state .table ≡ s .table → others .state .table ≡ s .table
-          → unless a (λ why. one) others .state .table ≡ s .table
-      by-answer one others accepted e f = f
-      by-answer one others (granted stamp place) e f = f
-      by-answer one others (idle stamp) e f = f
-      by-answer one others (refused why) e f = e
+    let one = called limit s (post p count) in
+    let same = called-table limit s (post p count) in
+    unless-table (s .table) one (posted limit (one .state) (suc p) counts) (one .answer) same (posted-table limit (one .state) (suc p) counts ∙ same)
 
 played-table : (limit : ℕ) (s : Arbiter) (counts : List ℕ) → played limit s counts .state .table ≡ s .table
 unfolding played
-played-table limit s counts = by-answer (posted limit s 0 counts) (posted limit s 0 counts .answer) (posted-table limit s 0 counts) where
-  by-answer : (filled : Result Arbiter Answer) (a : Answer) → filled .state .table ≡ s .table
-      → unless a (λ why. filled) (called limit (filled .state) slot) .state .table ≡ s .table
-  by-answer filled accepted e = called-table limit (filled .state) slot ∙ e
-  by-answer filled (granted stamp place) e = called-table limit (filled .state) slot ∙ e
-  by-answer filled (idle stamp) e = called-table limit (filled .state) slot ∙ e
-  by-answer filled (refused why) e = e
+played-table limit s counts =
+    let all = posted limit s 0 counts in
+    let same = posted-table limit s 0 counts in
+    unless-table (s .table) all (called limit (all .state) slot) (all .answer) same (called-table limit (all .state) slot ∙ same)
 
 -- N of a sound state
 pub sound-few : (s : Arbiter) → sound maxPlaces s ≡ true → s .table .count ≤ maxPlaces
@@ -153,12 +150,12 @@ module _ (limit : ℕ) (s : Arbiter) (bytes : List ℕ) where
 -- ---- a step
 
 -- no room: nothing is done
-pub without-room : (t : Step) (given : Arbiter) (old : List ℕ) → length old < lineRoom → noRoom given old ≡ inBuffer t given old
-without-room t given old h = rw (lt-leb lineRoom (length old) h)
+pub without-room : (t : Step) (given : Arbiter) (old : List ℕ) → length old < lineRoom maxPlaces → noRoom given old ≡ inBuffer maxPlaces t given old
+without-room t given old h = rw (lt-leb (lineRoom maxPlaces) (length old) h)
 
 -- room: the step's text is written
-pub with-room : (given : Arbiter) {t named : Step} (old : List ℕ) → lineRoom ≤ length old → t ≡ named → written t old ≡ inBuffer named given old
-with-room given {t} {named} old h e = rw (le-leb lineRoom (length old) h, e)
+pub with-room : (given : Arbiter) {t named : Step} (old : List ℕ) → lineRoom maxPlaces ≤ length old → t ≡ named → written t old ≡ inBuffer maxPlaces named given old
+with-room given {t} {named} old h e = rw (le-leb (lineRoom maxPlaces) (length old) h, e)
 
 module _ (limit : ℕ) (s : Arbiter) (rest : List ℕ) where
   pub step-unsound : sound limit s ≡ false → last (refusedLine (refusal 23)) s ≡ step limit s rest

@@ -9,7 +9,6 @@ use lib.ListN.{length, take, drop}
 use Rattle.lists.specs.Choices.{pick}
 use Rattle.lists.specs.Runs.{Result}
 use Rattle.arbiter.specs.declared.state.Arbiter.{Arbiter}
-use Rattle.arbiter.specs.declared.table.Table.{Table}
 use Rattle.arbiter.specs.Refusals.{refusal, resolve}
 use Rattle.arbiter.specs.Answers.{Answer, accepted, granted, idle, refused, unless}
 use Rattle.arbiter.specs.State.{sound}
@@ -17,7 +16,7 @@ use Rattle.arbiter.specs.Start.{noState, start}
 use Rattle.arbiter.specs.Input.{inputVerdict}
 use Rattle.table_bytes.specs.Reading.{Read, read, stop, next, numberRead, itemsRead, TableRead, readTable}
 use Rattle.calls.specs.declared.slot.Grant.the-variants.{Nobody, Place}
-use Rattle.calls.specs.Calls.{Call, post, slot, called}
+use Rattle.calls.specs.Calls.{post, slot, called}
 use Rattle.listing.specs.Lines.{header, endLine, refusedLine, slotLine}
 
 pub data Step : Type 0 where

@@ -7,7 +7,6 @@ use lib.ListN.{length, take, drop}
 use Rattle.lists.specs.Choices.{pick}
 use Rattle.lists.specs.Overwriting.{writtenOver}
 use Rattle.arbiter.specs.declared.state.Arbiter.{Arbiter}
-use Rattle.arbiter.specs.Limits.{maxPlaces}
 use Rattle.listing.specs.declared.steps.Told.{Told}
 use Rattle.listing.specs.declared.steps.Told.the-variants.{More, Last, NoRoom}
 use Rattle.listing.specs.declared.steps.StepResult.{StepResult}
@@ -18,9 +17,9 @@ use Rattle.listing.specs.Listing.{Step, more, last}
 abbrev pub itemRoom : ℕ
 itemRoom = 2 + maxEarlier
 
--- room for any step's text: a line has at most a stamp, a place, and a credit to each place
-abbrev pub lineRoom : ℕ
-lineRoom = (2 + maxPlaces) * itemRoom
+-- room for any step's text, where `limit` is the largest N: a line has at most a stamp, a place, and a credit to each place
+abbrev pub lineRoom : ℕ → ℕ
+lineRoom limit = (2 + limit) * itemRoom
 
 abbrev pub textOf : Step → List ℕ
 textOf (more text s rest) = text
@@ -35,8 +34,8 @@ pub data Outcome : Type 0 where
 abbrev pub written : Step → (old : List ℕ) → Outcome
 written t old = told t (writtenOver (textOf t) old)
 
-abbrev pub inBuffer : Step → (given : Arbiter) → (old : List ℕ) → Outcome
-inBuffer t given old = pick (leb lineRoom (length old)) (written t old) (noRoom given old)
+abbrev pub inBuffer : ℕ → Step → (given : Arbiter) → (old : List ℕ) → Outcome
+inBuffer limit t given old = pick (leb (lineRoom limit) (length old)) (written t old) (noRoom given old)
 
 -- the code's result and the lent buffer in these values; `bytes` is what the step was given of the input
 abbrev pub toldOf : List ℕ → Told → Arbiter → (buffer : List ℕ) → Outcome

@@ -1,21 +1,13 @@
-// The counts of a slot: read all, then posted from place 0 on, and then the slot.
+// The counts of a slot, read from the input.
 use arbiter::refusals::Cause;
 use arbiter::state::Arbiter;
-use arbiter::units::Transfers;
-use calls::post::PostAnswer;
-use calls::post::PostResult;
-use calls::post::post;
-use calls::slot::SlotAnswer;
-use calls::slot::SlotResult;
-use calls::slot::slot;
 use table_bytes::fields::Field;
 use table_bytes::fields::read_value;
 ghost use mathlib.Core.Path.{_≡_};
 ghost use Prim.Native.Nat.{_≤_};
-ghost use lib.ListN.{length, take};
+ghost use lib.ListN.{length};
 ghost use Rattle.arbiter.specs.Limits.{maxPlaces};
-ghost use Rattle.calls.specs.Calls.{postResultOf, slotResultOf};
-ghost use Rattle.listing.specs.Listing.{countsRead, posted, played};
+ghost use Rattle.listing.specs.Listing.{countsRead};
 ghost use Rattle.listing.specs.Parts.{countsOf, takenByCounts};
 
 // How many bytes the counts take.
@@ -58,48 +50,5 @@ pub(crate) fn read_counts(bytes: &[u8], n: usize) -> CountsResult
     CountsResult {
         counts: counts,
         answer: Counted::Taken(bytes.len() - left.len()),
-    }
-}
-
-// The counts are posted from place 0 on, until one is refused.
-fn post_counts(s: Arbiter, counts: &[u32]) -> PostResult
-    ensures { λ r. ⌜ postResultOf r ≡ posted maxPlaces s 0 (now (counts .entry)) ⌝ }
-{
-    let mut state = s;
-    let mut p: usize = 0;
-    while p < counts.len() {
-        let count = counts[p];
-        let done = post(state, p, Transfers(count));
-        let next = done.state;
-        let answer = done.answer;
-        match answer {
-            PostAnswer::Accepted => {
-                state = next;
-            }
-            PostAnswer::Refused(_) => {
-                return done;
-            }
-        }
-        p = p + 1;
-    }
-    PostResult {
-        state: state,
-        answer: PostAnswer::Accepted,
-    }
-}
-
-// The counts are posted, and then the slot is done.
-pub(crate) fn play(s: Arbiter, counts: &[u32]) -> SlotResult
-    ensures { λ r. ⌜ slotResultOf r ≡ played maxPlaces s (now (counts .entry)) ⌝ }
-{
-    let filled = post_counts(s, counts);
-    let ready = filled.state;
-    let answer = filled.answer;
-    match answer {
-        PostAnswer::Accepted => slot(ready),
-        PostAnswer::Refused(c) => SlotResult {
-            state: ready,
-            answer: SlotAnswer::Refused(c),
-        },
     }
 }

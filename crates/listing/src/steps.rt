@@ -2,12 +2,12 @@
 use crate::beginning::Beginning;
 use crate::beginning::begin;
 use crate::counts::Counted;
-use crate::counts::play;
 use crate::counts::read_counts;
 use crate::lines::put_end;
 use crate::lines::put_header;
 use crate::lines::put_refused;
 use crate::lines::put_slot;
+use crate::playing::play;
 use arbiter::refusals::Cause;
 use arbiter::refusals::StateRefusal;
 use arbiter::start::no_state;
@@ -46,7 +46,7 @@ pub struct StepResult {
 
 // The refusal's line, and the state as it was.
 fn refuse(s: Arbiter, why: Cause, out: &mut [u8]) -> StepResult
-    requires { ⌜ lineRoom ≤ length (now out) ⌝ }
+    requires { ⌜ lineRoom maxPlaces ≤ length (now out) ⌝ }
     ensures { λ r. ⌜ ((bytes : List ℕ) → outcomeOf bytes r (now (out .exit)) ≡ written (last (refusedLine (refusalOf why)) s) (now (out .entry))) ⌝ }
     ensures took { λ r. ⌜ takenBy (r .told) ≡ 0 ⌝ }
     ensures wrote { λ r. ⌜ wroteBy (r .told) ≤ length (now (out .entry)) ⌝ }
@@ -59,7 +59,7 @@ fn refuse(s: Arbiter, why: Cause, out: &mut [u8]) -> StepResult
 
 // What a slot came to, whose counts took so many bytes: its line, or the refusal's.
 fn tell(before: Arbiter, done: SlotResult, taken: usize, out: &mut [u8]) -> StepResult
-    requires { ⌜ (lineRoom ≤ length (now out)) × (done .state .table .count ≤ maxPlaces) ⌝ }
+    requires { ⌜ (lineRoom maxPlaces ≤ length (now out)) × (done .state .table .count ≤ maxPlaces) ⌝ }
     ensures { λ r. ⌜ ((bytes : List ℕ) → outcomeOf bytes r (now (out .exit)) ≡ written (slotTold before (slotAnswerOf (done .answer)) (done .state) (drop taken bytes)) (now (out .entry))) ⌝ }
     ensures took { λ r. ⌜ takenBy (r .told) ≤ taken ⌝ }
     ensures wrote { λ r. ⌜ wroteBy (r .told) ≤ length (now (out .entry)) ⌝ }
@@ -81,7 +81,7 @@ fn tell(before: Arbiter, done: SlotResult, taken: usize, out: &mut [u8]) -> Step
 
 // A slot of a sound state: its counts are read, posted and played.
 fn play_slot(s: Arbiter, rest: &[u8], out: &mut [u8]) -> StepResult
-    requires { ⌜ (lineRoom ≤ length (now out)) × (sound maxPlaces s ≡ true) ⌝ }
+    requires { ⌜ (lineRoom maxPlaces ≤ length (now out)) × (sound maxPlaces s ≡ true) ⌝ }
     ensures { λ r. ⌜ outcomeOf (now (rest .entry)) r (now (out .exit)) ≡ written (slotStep maxPlaces s (countsRead (s .table .count) (now (rest .entry)))) (now (out .entry)) ⌝ }
     ensures took { λ r. ⌜ takenBy (r .told) ≤ length (now (rest .entry)) ⌝ }
     ensures wrote { λ r. ⌜ wroteBy (r .told) ≤ length (now (out .entry)) ⌝ }
@@ -102,7 +102,7 @@ fn play_slot(s: Arbiter, rest: &[u8], out: &mut [u8]) -> StepResult
 
 // One slot from the rest of the input, or the end. Its line may be a refusal's: 23, 8, 9, 21, 22.
 pub fn step(s: Arbiter, rest: &[u8], out: &mut [u8]) -> StepResult
-    ensures { λ r. ⌜ outcomeOf (now (rest .entry)) r (now (out .exit)) ≡ inBuffer (step maxPlaces s (now (rest .entry))) s (now (out .entry)) ⌝ }
+    ensures { λ r. ⌜ outcomeOf (now (rest .entry)) r (now (out .exit)) ≡ inBuffer maxPlaces (step maxPlaces s (now (rest .entry))) s (now (out .entry)) ⌝ }
     ensures took { λ r. ⌜ takenBy (r .told) ≤ length (now (rest .entry)) ⌝ }
     ensures wrote { λ r. ⌜ wroteBy (r .told) ≤ length (now (out .entry)) ⌝ }
 {
@@ -127,7 +127,7 @@ pub fn step(s: Arbiter, rest: &[u8], out: &mut [u8]) -> StepResult
 
 // The header, and behind it the refusal's line if the input begins with a fault: 13, 8, 9, and the table's 1 to 7 and 10.
 pub fn first_step(input: &[u8], out: &mut [u8]) -> StepResult
-    ensures { λ r. ⌜ outcomeOf (now (input .entry)) r (now (out .exit)) ≡ inBuffer (firstStep maxPlaces (now (input .entry))) (noState maxPlaces) (now (out .entry)) ⌝ }
+    ensures { λ r. ⌜ outcomeOf (now (input .entry)) r (now (out .exit)) ≡ inBuffer maxPlaces (firstStep maxPlaces (now (input .entry))) (noState maxPlaces) (now (out .entry)) ⌝ }
     ensures took { λ r. ⌜ takenBy (r .told) ≤ length (now (input .entry)) ⌝ }
     ensures wrote { λ r. ⌜ wroteBy (r .told) ≤ length (now (out .entry)) ⌝ }
 {

@@ -1,6 +1,8 @@
--- Laws on tests, sums, lists of calls, lists that are overwritten from the front, and two lists side by side.
+-- Laws on tests, sums, lists of calls, lists that are overwritten from the front, texts put one behind the
+-- other, and two lists side by side.
 pub mod Tests
 pub mod Sums
 pub mod Runs
 pub mod Overwriting
+pub mod Putting
 pub mod Pairs

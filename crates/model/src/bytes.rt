@@ -16,6 +16,7 @@ use crate::table::number_of_table;
 use crate::table::put_number_of_table;
 use crate::table::rates_fault;
 use crate::words::DENOMINATOR;
+use crate::words::NUMBERS;
 use crate::words::Words;
 use crate::words::clear;
 
@@ -108,7 +109,7 @@ fn read_number(bytes: &Bytes, length: u64, from: u64, w: &mut Words, k: u64) -> 
 fn read_numbers(bytes: &Bytes, length: u64, w: &mut Words) -> Number {
     let mut fault: u64 = 0;
     let mut next: u64 = 0;
-    for k in 0..66 {
+    for k in 0..NUMBERS {
         if fault == 0 {
             if k < count_of_numbers(w) {
                 let got = read_number(bytes, length, next, w, k);
@@ -181,7 +182,7 @@ pub fn put_number(bytes: &mut Bytes, from: u64, x: u64, more: u64) -> u64 {
 // bytes there are.
 pub fn put_table(w: &Words, bytes: &mut Bytes, long: u64, more: u64) -> u64 {
     let mut next: u64 = 0;
-    for k in 0..66 {
+    for k in 0..NUMBERS {
         if k < count_of_numbers(w) {
             let extra = if k == long { more } else { 0 };
             next = put_number(bytes, next, number_of_table(w, k), extra);

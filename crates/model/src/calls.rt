@@ -15,6 +15,7 @@ use crate::words::BURST;
 use crate::words::COUNT;
 use crate::words::CREDIT;
 use crate::words::DENOMINATOR;
+use crate::words::PLACES;
 use crate::words::RATE;
 use crate::words::SLOT;
 use crate::words::Words;
@@ -59,8 +60,8 @@ fn is_eligible(w: &Words, p: u64) -> bool {
 // The lowest eligible place. The places are gone through from the last to the first, and the one found last is the lowest.
 fn winner(w: &Words) -> u64 {
     let mut place = NOBODY;
-    for k in 0..16 {
-        let p = 15 - k;
+    for k in 0..PLACES {
+        let p = PLACES - 1 - k;
         if is_eligible(w, p) {
             place = p;
         }
@@ -99,7 +100,7 @@ fn settle(w: &mut Words, p: u64, granted: u64) {
 // One slot of the rule, with no check: the place that was granted, or nobody.
 pub fn advance(w: &mut Words) -> u64 {
     let granted = winner(w);
-    for p in 0..16 {
+    for p in 0..PLACES {
         if p < w[COUNT] {
             settle(w, p, granted);
         }

@@ -6,6 +6,7 @@ use crate::words::BACKLOG;
 use crate::words::BURST;
 use crate::words::COUNT;
 use crate::words::CREDIT;
+use crate::words::PLACES;
 use crate::words::RATE;
 use crate::words::SLOT;
 use crate::words::Words;
@@ -28,7 +29,7 @@ fn account_broken(w: &Words, p: u64) -> bool {
 
 fn accounts_broken(w: &Words) -> bool {
     let mut broken = false;
-    for p in 0..16 {
+    for p in 0..PLACES {
         if p < w[COUNT] {
             if account_broken(w, p) {
                 broken = true;
@@ -54,7 +55,7 @@ pub fn state_fault(w: &Words) -> u64 {
 
 // Credits at the bursts, backlogs at 0.
 fn open_accounts(w: &mut Words) {
-    for p in 0..16 {
+    for p in 0..PLACES {
         let burst = of_place(w, p, BURST);
         put_place(w, p, CREDIT, burst);
         put_place(w, p, BACKLOG, 0);

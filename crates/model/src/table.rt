@@ -8,6 +8,8 @@ use crate::words::BURST;
 use crate::words::COUNT;
 use crate::words::DENOMINATOR;
 use crate::words::NEED;
+use crate::words::NUMBERS;
+use crate::words::PLACES;
 use crate::words::RATE;
 use crate::words::WITHIN;
 use crate::words::Words;
@@ -73,7 +75,7 @@ pub fn number_fault(d: u64, k: u64, x: u64) -> u64 {
         return if outside(x, 1, 65535) { 1 } else { 0 };
     }
     if k == 1 {
-        return if outside(x, 1, 16) { 2 } else { 0 };
+        return if outside(x, 1, PLACES) { 2 } else { 0 };
     }
     let past = sub(k, 2);
     let fault = place_number_fault(d, past % 4, x);
@@ -102,7 +104,7 @@ pub fn any_word(w: &Words, p: u64, first: u64, last: u64) -> bool {
 // Whether a place past N - 1 has a word from `first` to `last` that is not 0.
 pub fn any_past(w: &Words, first: u64, last: u64) -> bool {
     let mut found = false;
-    for p in 0..16 {
+    for p in 0..PLACES {
         if w[COUNT] <= p {
             if any_word(w, p, first, last) {
                 found = true;
@@ -129,7 +131,7 @@ fn head_fault(w: &Words) -> u64 {
 // 3, 4 and 5 place by place: the first number of the table that is at fault.
 fn places_fault(w: &Words) -> u64 {
     let mut fault: u64 = 0;
-    for k in 0..66 {
+    for k in 0..NUMBERS {
         if fault == 0 {
             if k < count_of_numbers(w) {
                 fault = number_fault(w[DENOMINATOR], k, number_of_table(w, k));
@@ -151,7 +153,7 @@ pub fn rates_fault(w: &Words) -> u64 {
 // 7: the lowest place whose finish figure is above its L.
 pub fn finishes_fault(w: &Words) -> u64 {
     let mut fault: u64 = 0;
-    for p in 0..16 {
+    for p in 0..PLACES {
         if fault == 0 {
             if p < w[COUNT] {
                 if of_place(w, p, WITHIN) < finish(w, p, of_place(w, p, NEED)) {

@@ -1,11 +1,14 @@
-// The whole state as one flat array of words: D, N, the slot number, and then n, b, j, L, q, c of each place from 0 to 15. A table
+// The whole state as one flat array of words: D, N, the slot number, and then n, b, j, L, q, c of each place. A table
 // is the same with no q, c and slot number.
 
-pub const WORDS: usize = 99;
+pub const PLACES: u64 = 16;
+
+pub const WORDS: usize = 3 + 6 * (PLACES as usize);
 
 pub type Words = [u64; WORDS];
 
-pub const PLACES: u64 = 16;
+// D, N, and n, b, j, L of each place.
+pub const NUMBERS: u64 = 2 + 4 * PLACES;
 
 // Where D, N and the slot number stand.
 pub const DENOMINATOR: usize = 0;
@@ -28,23 +31,23 @@ pub const BACKLOG: u64 = 4;
 pub const CREDIT: u64 = 5;
 
 pub fn at(w: &Words, i: u64) -> u64 {
-    if i < 99 { w[i as usize] } else { 0 }
+    if i < (WORDS as u64) { w[i as usize] } else { 0 }
 }
 
 pub fn put(w: &mut Words, i: u64, x: u64) {
-    if i < 99 {
+    if i < (WORDS as u64) {
         w[i as usize] = x;
     }
 }
 
 // Where the word `field` of place p stands; past the end where there is none.
 fn position(p: u64, field: u64) -> u64 {
-    if p < 16 {
+    if p < PLACES {
         if field < 6 {
             return 3 + 6 * p + field;
         }
     }
-    99
+    WORDS as u64
 }
 
 pub fn of_place(w: &Words, p: u64, field: u64) -> u64 {
@@ -56,7 +59,7 @@ pub fn put_place(w: &mut Words, p: u64, field: u64, x: u64) {
 }
 
 pub fn clear(w: &mut Words) {
-    for i in 0..99 {
+    for i in 0..(WORDS as u64) {
         put(w, i, 0);
     }
 }
@@ -64,7 +67,7 @@ pub fn clear(w: &mut Words) {
 // The sum of one word over the first `places` places.
 pub fn sum(w: &Words, field: u64, places: u64) -> u64 {
     let mut total: u64 = 0;
-    for p in 0..16 {
+    for p in 0..PLACES {
         if p < places {
             total = crate::numbers::add(total, of_place(w, p, field));
         }
@@ -75,7 +78,7 @@ pub fn sum(w: &Words, field: u64, places: u64) -> u64 {
 // 0 where the two are the same, else one more than the first position at which they differ.
 pub fn first_difference(a: &Words, b: &Words) -> u64 {
     let mut found: u64 = 0;
-    for i in 0..99 {
+    for i in 0..(WORDS as u64) {
         if found == 0 {
             if at(a, i) != at(b, i) {
                 found = crate::numbers::add(i, 1);

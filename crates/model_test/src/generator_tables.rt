@@ -17,6 +17,7 @@ use model::words::BURST;
 use model::words::COUNT;
 use model::words::DENOMINATOR;
 use model::words::NEED;
+use model::words::NUMBERS;
 use model::words::PLACES;
 use model::words::RATE;
 use model::words::WITHIN;
@@ -111,7 +112,7 @@ pub fn valid_table(key: u64, w: &mut Words) {
     let n = choose_count(key, d);
     w[DENOMINATOR] = d;
     w[COUNT] = n;
-    for p in 0..16 {
+    for p in 0..PLACES {
         if p < n {
             choose_place(branch(key, add(p, 7)), w, p);
         }
@@ -126,7 +127,7 @@ fn edge_of_number(key: u64, d: u64, k: u64) -> u64 {
         return edge(key, 1, 1, 65535);
     }
     if k == 1 {
-        return add(edge(key, 2, 1, 16), far);
+        return add(edge(key, 2, 1, PLACES), far);
     }
     let field = sub(k, 2) % 4;
     match field {
@@ -145,7 +146,7 @@ pub struct Change {
 }
 
 fn change_number(key: u64, w: &mut Words) {
-    let numbers = least(count_of_numbers(w), 66);
+    let numbers = least(count_of_numbers(w), NUMBERS);
     let k = below(key, 7, numbers);
     let x = edge_of_number(key, w[DENOMINATOR], k);
     put_number_of_table(w, k, x);

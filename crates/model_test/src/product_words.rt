@@ -50,7 +50,7 @@ pub fn table_of(w: &Words) -> Table {
         within: Slots(0),
     };
     let mut rows = [none; Arbiter::MAX_PLACES];
-    for p in 0..16 {
+    for p in 0..Arbiter::MAX_PLACES {
         rows[p] = requestor_of(w, p);
     }
     Table {
@@ -66,7 +66,7 @@ fn accounts_of(w: &Words) -> [Account; Arbiter::MAX_PLACES] {
         backlog: Transfers(0),
     };
     let mut accounts = [none; Arbiter::MAX_PLACES];
-    for p in 0..16 {
+    for p in 0..Arbiter::MAX_PLACES {
         accounts[p] = account_of(w, p);
     }
     accounts
@@ -98,7 +98,7 @@ fn put_account(w: &mut Words, p: usize, a: Account) {
 }
 
 fn put_requestors(w: &mut Words, requestors: [Requestor; Arbiter::MAX_PLACES]) {
-    for p in 0..16 {
+    for p in 0..Arbiter::MAX_PLACES {
         let r = requestors[p];
         put_requestor(w, p, r);
     }
@@ -112,7 +112,7 @@ pub fn put_table(w: &mut Words, t: Table) {
 }
 
 fn put_accounts(w: &mut Words, accounts: [Account; Arbiter::MAX_PLACES]) {
-    for p in 0..16 {
+    for p in 0..Arbiter::MAX_PLACES {
         let a = accounts[p];
         put_account(w, p, a);
     }

@@ -2,18 +2,16 @@
 -- are lent three numbers to a call, and each answer is written as three numbers, so that a caller in any language can read
 -- them.
 use mathlib.Core.Path.{_≡_}
-use mathlib.Core.Bool.{Bool, true, false}
 use mathlib.Core.List.{List, [], _∷_}
 use Prim.Native.Nat.{ℕ, zero, suc, _/_}
 use lib.ListN.{length, take}
-use Rattle.lists.specs.Choices.{pick}
 use Rattle.lists.specs.Sums.{joined}
 use Rattle.lists.specs.Overwriting.{writtenOver}
 use Rattle.lists.specs.Runs.{Result, end, answers}
 use Rattle.arbiter.specs.declared.table.Table.{Table}
 use Rattle.arbiter.specs.declared.state.Arbiter.{Arbiter}
 use Rattle.arbiter.specs.declared.start.StartResult as code-result
-use Rattle.arbiter.specs.Answers.{Answer, accepted, granted, idle, refused}
+use Rattle.arbiter.specs.Answers.{Answer, accepted, granted, idle, refused, unless}
 use Rattle.arbiter.specs.Start.{startAnswerOf, start}
 use Rattle.calls.specs.Calls.{Call, post, slot, called}
 use Rattle.replay.specs.declared.Words.{Words}
@@ -52,12 +50,6 @@ pub record Replayed : Type 0 where
   pub answer : Answer
   pub words : List ℕ
 
-abbrev pub isAccepted : Answer → Bool
-isAccepted accepted = true
-isAccepted (granted stamp p) = false
-isAccepted (idle stamp) = false
-isAccepted (refused r) = false
-
 -- what an accepted start and the calls from it come to, by the state and the numbers after the calls
 abbrev pub afterCalls : Arbiter → (words : List ℕ) → Replayed
 afterCalls s words = record { state = s; answer = accepted; words = words }
@@ -72,9 +64,9 @@ callsFrom limit s calls old =
 -- what follows a start: an accepted one the calls; a refused one nothing, and the lent answers are left as they were
 unfoldable pub continued : ℕ → Result Arbiter Answer → (calls old : List ℕ) → Replayed
 continued limit begun calls old =
-    pick (isAccepted (begun .answer))
+    unless (begun .answer)
+    (λ why. record { state = begun .state; answer = refused why; words = old })
     (callsFrom limit (begun .state) calls old)
-    (record { state = begun .state; answer = begun .answer; words = old })
 
 -- a start and the calls from it; `limit` is the largest N
 unfoldable pub replay : ℕ → Table → (first : ℕ) → (calls old : List ℕ) → Replayed

@@ -7,6 +7,7 @@ use listing::steps::first_step;
 use listing::steps::step;
 ghost use Prim.Native.Nat.{_≤_};
 ghost use lib.ListN.{length};
+ghost use Rattle.arbiter.specs.Limits.{maxPlaces};
 ghost use Rattle.listing.specs.Room.{lineRoom};
 ghost use Rattle.slotlist.specs.Input.{bytesOf};
 
@@ -41,7 +42,7 @@ fn read_input(room: &mut [u8]) -> Input
 // The slots from the rest of the input: their texts gather on the page, which is written when it has no room for another. Answers
 // whether all was written. A step that goes on takes a byte at least, and an empty page has room, so the loop ends.
 fn print_slots(s: Arbiter, rest: &[u8], page: &mut [u8], used: usize) -> bool
-    requires { ⌜ (lineRoom ≤ length (now page)) × (used ≤ length (now page)) ⌝ }
+    requires { ⌜ (lineRoom maxPlaces ≤ length (now page)) × (used ≤ length (now page)) ⌝ }
 {
     let mut state = s;
     let mut left = rest;
@@ -71,7 +72,7 @@ fn print_slots(s: Arbiter, rest: &[u8], page: &mut [u8], used: usize) -> bool
 
 // Header and slots. Answers whether all was written.
 fn print_listing(input: &[u8], page: &mut [u8]) -> bool
-    requires { ⌜ lineRoom ≤ length (now page) ⌝ }
+    requires { ⌜ lineRoom maxPlaces ≤ length (now page) ⌝ }
 {
     let first = first_step(input, page);
     let told = first.told;

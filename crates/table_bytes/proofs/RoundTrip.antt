@@ -23,7 +23,7 @@ use Rattle.arbiter.specs.Answers.{accepted}
 use Rattle.arbiter.specs.Answers as answers
 use Rattle.arbiter.specs.Table.{noRequestor, requestorClear, requestorsOf, tableOf, Bounds, denominatorBounds, countBounds, rateBounds, burstBounds, needBounds, withinBounds, heldTo, rowVerdict, eachPlace, tailVerdict, rateSumVerdict, tableVerdict}
 use Rattle.arbiter.specs.Figures.{finishesVerdict, admissionVerdict}
-use Rattle.arbiter.proofs.Checks.{gate-open, then-open, held-open}
+use Rattle.arbiter.proofs.Checks.{gate-open, then-open, held-open, Passed, passed}
 use Rattle.table_bytes.specs.Reading.{Read, read, stop, next, fieldRead, itemsRead, rowRead, rowsRead, placesRead, numbersRead, lastVerdict, TableRead, accept, refuse, settled, readTable}
 use Rattle.table_bytes.specs.Writing.{rowNumbers, tableNumbers, tableBytes, writeVerdict, wrote, refused, TableWritten, writeTable}
 use Rattle.table_bytes.proofs.Accepted.{Spent, spent-more, field-open, field-spent, next-open, read-same, rows-open, table-rows, table-admission}
@@ -104,24 +104,10 @@ table-whole t h clear =
     ∙ ap (λ l. requestorsOf t ++ l) (sym (clear-rows (t .count) rows clear)) ∙ take-append-drop (t .count) rows in
     ap (λ l. record { denominator = t .denominator; count = t .count; requestors = l }) all
 
--- what each check of a table that passes them all says
-record Passed (limit : ℕ) (t : Table) : Type 0 where
-  denominator : heldTo denominatorBounds (t .denominator) ≡ faultless
-  count : heldTo (countBounds limit) (t .count) ≡ faultless
-  clear : every requestorClear (drop (t .count) (t .requestors)) ≡ true
-  rows : eachPlace (rowVerdict (t .denominator)) 0 (requestorsOf t) ≡ faultless
-  sum : rateSumVerdict t ≡ faultless
-  finishes : finishesVerdict t ≡ faultless
-
-passed : (limit : ℕ) (t : Table) → admissionVerdict limit t ≡ faultless → Passed limit t
-unfolding admissionVerdict tableVerdict tailVerdict
-passed limit t ok =
-    let a = then-open _ _ ok in
-    let d = then-open _ _ (a .0) in
-    let n = then-open _ _ (d .1) in
-    let c = then-open _ _ (n .1) in
-    let r = then-open _ _ (c .1) in
-    record { denominator = d .0; count = n .0; clear = gate-open _ _ _ (c .0) .0; rows = r .0; sum = r .1; finishes = a .1 }
+-- admission is checks 1 to 6, and then 7
+admitted-both : (limit : ℕ) (t : Table) → admissionVerdict limit t ≡ faultless → (tableVerdict limit t ≡ faultless) × (finishesVerdict t ≡ faultless)
+unfolding admissionVerdict
+admitted-both limit t ok = then-open _ _ ok
 
 table-numbers-read : (limit : ℕ) (t : Table) → limit ≤ maxNumber → length (t .requestors) ≡ limit → Passed limit t → numbersRead limit (tableBytes t ++ []) ≡ read t []
 unfolding numbersRead placesRead next tableBytes tableNumbers
@@ -141,9 +127,10 @@ table-reads : (limit : ℕ) (t : Table) → limit ≤ maxNumber → length (t .r
     → readTable limit (tableBytes t) ≡ accept t
 unfolding readTable settled lastVerdict gate then
 table-reads limit t small long ok =
-    let p = passed limit t ok in
+    let both = admitted-both limit t ok in
+    let p = passed limit t (both .0) in
     let back = ap (numbersRead limit) (sym (append-nil (tableBytes t))) ∙ table-numbers-read limit t small long p in
-    rw (back, p .sum, p .finishes)
+    rw (back, p .sum, both .1)
 
 -- ---- in bytes
 
@@ -174,7 +161,7 @@ table-bytes-are limit t small ok =
     (field-bytes (countBounds limit) (t .count) rows small (ok .count) (rows-bytes (t .denominator) 0 (requestorsOf t) fits (ok .rows)))
 
 pub bytes-read-back : Bytes-read-back
-bytes-read-back limit t small long ok = (table-bytes-are limit t small (passed limit t ok), table-reads limit t small long ok)
+bytes-read-back limit t small long ok = (table-bytes-are limit t small (passed limit t (admitted-both limit t ok .0)), table-reads limit t small long ok)
 
 -- ---- an accepted writing
 

@@ -5,12 +5,13 @@ use Prim.Native.Nat.{ℕ, suc, _+_, _-_, _*_, _≤_, _<_}
 use native.Mathlib.Omega.{arith}
 use borrow.Author.Tests.{lt-leb, le-leb}
 use borrow.Rule.Slice.PartMut.{putMid}
-use lib.ListN.{length, getD, set, take, drop, length-append, length-drop, length-take}
+use lib.ListN.{length, getD, set, take, drop, length-append, length-take}
 use lib.Seq.{take-all, take-at, getD-take, length-take-le}
 use Rattle.lists.specs.Sums.{joined}
 use Rattle.lists.specs.Overwriting.{writtenOver}
 use Rattle.lists.proofs.Sums.{total-take-drop, total-most, joined-next, length-joined}
-use Rattle.lists.proofs.Overwriting.{stored-behind, length-over, part-behind, written-behind}
+use Rattle.lists.proofs.Overwriting.{stored-behind}
+use Rattle.lists.proofs.Putting.{Put, put-none, put-next, put-room}
 use Rattle.arbiter.specs.declared.refusals.Cause.{Cause}
 use Rattle.arbiter.specs.declared.refusals.Verdict as code
 use Rattle.arbiter.specs.declared.refusals.Verdict.the-variants as code-verdict
@@ -102,43 +103,34 @@ counted-all {numbers} {k} {i} d h = d .count ∙ ap (λ (l : List ℕ). length (
 -- ---- in a buffer that has room
 
 -- the first i numbers' bytes stand in front of what the buffer held
-pub record Put (numbers old buffer : List ℕ) (k i : ℕ) : Type 0 where
+pub record Written (numbers old buffer : List ℕ) (k i : ℕ) : Type 0 where
   pub counted : Counted numbers k i
-  pub same : buffer ≡ writtenOver (joined numberBytes (take i numbers)) old
+  pub put : Put (joined numberBytes (take i numbers)) old buffer k
 
 -- before the first number the buffer is as it was
-pub put-none : (numbers old : List ℕ) → Put numbers old old 0 0
-unfolding joined writtenOver
-put-none numbers old = record { counted = counted-none numbers; same = refl }
+pub written-none : (numbers old : List ℕ) → Written numbers old old 0 0
+unfolding joined
+written-none numbers old = record { counted = counted-none numbers; put = put-none old }
 
 -- behind the last, the bytes of all of them stand there
-pub put-all : {numbers old buffer : List ℕ} {k i : ℕ} → Put numbers old buffer k i → length numbers ≤ i → buffer ≡ writtenOver (joined numberBytes numbers) old
-put-all {numbers} {old} {buffer} {k} {i} p h = p .same ∙ ap (λ (l : List ℕ). writtenOver (joined numberBytes l) old) (take-all i numbers h)
+pub written-all : {numbers old buffer : List ℕ} {k i : ℕ} → Written numbers old buffer k i → length numbers ≤ i → buffer ≡ writtenOver (joined numberBytes numbers) old
+written-all {numbers} {old} {buffer} {k} {i} w h = w .put .same ∙ ap (λ (l : List ℕ). writtenOver (joined numberBytes l) old) (take-all i numbers h)
 
-module _ {numbers old buffer : List ℕ} {k i : ℕ} (room : length (joined numberBytes numbers) ≤ length old) (p : Put numbers old buffer k i) where
-  -- the buffer is as long as it was
-  pub put-length : length buffer ≡ length old
-  put-length = rw (p .same) (length-over (joined numberBytes (take i numbers)) old (omega (arith, counted-part (p .counted), p .counted .count)))
-
-  -- the bytes end inside it
-  pub put-inside : k ≤ length buffer
-  put-inside = omega (arith, put-length, counted-part (p .counted))
-
-  -- one number more, written in the part of the buffer that is left
-  pub put-next : i < length numbers → (more : ℕ) (part : List ℕ)
-      → _≡_ {A = Filled} (record { wrote = more; buffer = part }) (numberWritten (getD numbers i 0) (take (length buffer - k) (drop k buffer)))
-      → Put numbers old (putMid k (length buffer - k) buffer part) (k + more) (i + 1)
-  put-next h more part e =
-      let x = getD numbers i 0 in
-      let front = joined numberBytes (take i numbers) in
-      let rest = take (length buffer - k) (drop k buffer) in
-      let there : rest ≡ drop k old = rw (p .same) (part-behind front old k (sym (p .counted .count))) in
-      let fits : length (numberBytes x) ≤ length rest = rw (there, length-drop k old) (omega (arith, counted-part (counted-next (p .counted) h (length (numberBytes x)) refl))) in
-      let filled = e ∙ sym (written-whole x (length (numberBytes x)) rest (writtenOver (numberBytes x) rest) fits refl refl) in
-      record {
-        counted = counted-next (p .counted) h more (ap (λ (f : Filled). f .wrote) filled);
-        same = rw (p .same, joined-next numberBytes 0 numbers i h) (written-behind front old k (sym (p .counted .count)) (numberBytes x) part (rw (p .same) at (ap (λ (f : Filled). f .buffer) filled)));
-      }
+-- one number more, written in the part of the buffer that is left
+pub written-next : {numbers old buffer : List ℕ} {k i : ℕ} → length (joined numberBytes numbers) ≤ length old → Written numbers old buffer k i → i < length numbers
+    → (more : ℕ) (part : List ℕ) → _≡_ {A = Filled} (record { wrote = more; buffer = part }) (numberWritten (getD numbers i 0) (take (length buffer - k) (drop k buffer)))
+    → Written numbers old (putMid k (length buffer - k) buffer part) (k + more) (i + 1)
+written-next {numbers} {old} {buffer} {k} {i} room w h more part e =
+    let x = getD numbers i 0 in
+    let rest = take (length buffer - k) (drop k buffer) in
+    let fits : length (joined numberBytes (take i numbers)) + length (numberBytes x) ≤ length old =
+    omega (arith, room, w .counted .count, counted-part (counted-next (w .counted) h (length (numberBytes x)) refl)) in
+    let filled = e ∙ sym (written-whole x (length (numberBytes x)) rest (writtenOver (numberBytes x) rest) (put-room (w .put) (numberBytes x) fits) refl refl) in
+    let wrote-is = ap (λ (f : Filled). f .wrote) filled in
+    record {
+      counted = counted-next (w .counted) h more wrote-is;
+      put = rw (joined-next numberBytes 0 numbers i h) (put-next (w .put) (numberBytes x) fits (wrote-is, ap (λ (f : Filled). f .buffer) filled));
+    }
 
 -- ---- the whole writing
 

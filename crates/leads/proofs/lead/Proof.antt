@@ -5,13 +5,14 @@ use Prim.Native.Nat.{_≤_}
 use native.Mathlib.Omega.{arith}
 use borrow.Author.Tests.{leb-true}
 use borrow.Author.Needs.{needs}
-use lib.ListN.{length, length-map}
+use lib.ListN.{length}
 use Rattle.arbiter.specs.Limits.{maxPlaces, maxInput}
 use Rattle.arbiter.specs.Refusals.{verdictOf, faultless, then}
 use Rattle.arbiter.specs.Input.{inputVerdict}
 use Rattle.arbiter.proofs.Checks.{gate-open, then-open}
 use Rattle.arbiter.proofs.Above.{Above, above}
 use Rattle.arbiter.proofs.Sound.{sound-open, place-open}
+use Rattle.arbiter.proofs.Shapes.{shaped}
 use Rattle.leads.specs.Lead.{leadVerdict, leadOf, leadAsked}
 use Rattle.leads.proofs.Signed.{product-most, difference-fits}
 use Rattle.leads.proofs.Counts.{bytes-most}
@@ -35,9 +36,8 @@ facts c =
     let a = c .before .before .before .before .before .before in
     let s = a .args .s in
     let asked = place-open maxPlaces s (a .args .place) (then-open _ _ (passed c) .0) in
-    let rows = sym (length-map (s .table .requestors) _) ∙ a .good .0 .1 .1 .0 .1 .1 .1 .1 .0 .1 .0 .1 in
-    let accounts = sym (length-map (s .accounts) _) ∙ a .good .0 .1 .1 .1 .1 .0 .1 .0 .1 in
-    above maxPlaces (s .table) (a .args .place) rows (sound-open maxPlaces s rows accounts (asked .0) .passes) (asked .1)
+    let shape = shaped s (a .good .0) in
+    above maxPlaces (s .table) (a .args .place) (shape .rows) (sound-open maxPlaces s shape (asked .0) .passes) (asked .1)
 
 -- and the log is short enough
 short : (c : tie.After-enum-told) → length (c .before .before .before .before .before .before .args .log .now) ≤ maxInput

@@ -1,19 +1,19 @@
 -- `arbiter::admission::check_finish` meets its contract. One gate. Assumes nothing.
-use mathlib.Core.Path.{sym, _∙_}
+use mathlib.Core.Path.{_∙_}
 use native.Mathlib.Omega.{arith}
 use borrow.Author.Tests.{lt-leb, le-leb}
 use borrow.Author.Needs.{needs}
-use lib.ListN.{length-map}
 use Rattle.arbiter.specs.Limits.{maxPlaces}
 use Rattle.arbiter.specs.Refusals.{gate}
 use Rattle.arbiter.specs.Figures.{finish, finishVerdict}
+use Rattle.arbiter.proofs.Shapes.{table-rows}
 use Rattle.arbiter.proofs.Above.{Above, above}
 use Rattle.arbiter.proofs.admission.check_finish.Statement.{statement}
 use Rattle.arbiter.proofs.admission.check_finish.Tie as tie
 
 -- what the table's checks say of the sums above the place
 facts : (c : tie.Start) → Above maxPlaces (c .args .t1) (c .args .p)
-facts c = above maxPlaces (c .args .t1) (c .args .p) (sym (length-map (c .args .t1 .requestors) _) ∙ c .good .0 .1 .1 .1 .1 .0 .1 .0 .1) (c .pre .0) (c .pre .1)
+facts c = above maxPlaces (c .args .t1) (c .args .p) (table-rows (c .args .t1) (c .good .0)) (c .pre .0) (c .pre .1)
 
 mul-r : tie.Need-mul-r
 mul-r c = omega (arith, facts c .place)

@@ -3,11 +3,12 @@
 use mathlib.Core.Path.{_≡_, refl, ap, sym, _∙_}
 use Prim.Native.Nat.{_-_, _≤_}
 use native.Mathlib.Omega.{arith}
-use lib.ListN.{length, length-map, drop}
+use lib.ListN.{length, drop}
 use Rattle.arbiter.specs.Limits.{maxPlaces}
 use Rattle.arbiter.specs.Refusals.{verdictOf}
 use Rattle.arbiter.specs.Table.{requestorsOf, eachPlace}
 use Rattle.arbiter.specs.Figures.{finishVerdict}
+use Rattle.arbiter.proofs.Shapes.{table-rows}
 use Rattle.arbiter.proofs.Checks.{fair}
 use Rattle.arbiter.proofs.Places.{each-pass, each-stop, each-end}
 use Rattle.arbiter.proofs.admission.check_finishes.Statement.{statement}
@@ -21,7 +22,7 @@ abbrev μ-loop : tie.MeasureT-loop
 
 -- the array's length
 long : (c : tie.Start Inv-loop μ-loop) → length (c .args .t .requestors) ≡ maxPlaces
-long c = sym (length-map (c .args .t .requestors) _) ∙ c .good .0 .1 .1 .1 .1 .0 .1 .0 .1
+long c = table-rows (c .args .t) (c .good .0)
 
 loop-holds : tie.Need-loop-holds Inv-loop μ-loop
 loop-holds c = (omega arith, refl)

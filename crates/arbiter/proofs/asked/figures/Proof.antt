@@ -2,12 +2,12 @@
 -- can be worked out. Assumes nothing.
 use mathlib.Core.Path.{_≡_, ap, ap₂, sym, _∙_}
 use borrow.Author.Needs.{needs}
-use lib.ListN.{length-map}
 use Rattle.arbiter.specs.Limits.{maxPlaces}
 use Rattle.arbiter.specs.Refusals.{verdictOf, faultless, then}
 use Rattle.arbiter.specs.Table.{tableVerdict}
 use Rattle.arbiter.specs.State.{placeVerdict}
 use Rattle.arbiter.specs.Asked.{figuresVerdict, figures}
+use Rattle.arbiter.proofs.Shapes.{shaped}
 use Rattle.arbiter.proofs.Checks.{then-open, held-by}
 use Rattle.arbiter.proofs.Sound.{sound-open, place-open}
 use Rattle.arbiter.proofs.asked.figures.Statement.{statement}
@@ -31,9 +31,7 @@ table-passes : (c : tie.After-enum-told) → tableVerdict maxPlaces (c .before .
 table-passes c =
     let a = c .before .before .before .before .before .before .before in
     let s = a .args .s in
-    sound-open maxPlaces s
-    (sym (length-map (s .table .requestors) _) ∙ a .good .0 .1 .1 .0 .1 .1 .1 .1 .0 .1 .0 .1)
-    (sym (length-map (s .accounts) _) ∙ a .good .0 .1 .1 .1 .1 .0 .1 .0 .1)
+    sound-open maxPlaces s (shaped s (a .good .0))
     (place-open maxPlaces s (a .args .place) (there c) .0) .passes
 
 check-place-requires : tie.Need-check-place-requires

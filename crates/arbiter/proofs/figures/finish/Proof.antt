@@ -1,20 +1,20 @@
 -- `arbiter::figures::finish` meets its contract. The wait, and j times D, which fits since j has 32 bits and D is at most
 -- 65,535. Assumes nothing.
-use mathlib.Core.Path.{sym, _∙_}
+use mathlib.Core.Path.{_∙_}
 use Prim.Native.Nat.{_≤_}
 use native.Mathlib.Omega.{arith}
 use native.Mathlib.Nat.{mul-le-mul}
 use borrow.Author.Needs.{needs}
-use lib.ListN.{length-map}
 use Rattle.arbiter.specs.Limits.{maxPlaces}
 use Rattle.arbiter.specs.Figures.{finish}
+use Rattle.arbiter.proofs.Shapes.{table-rows}
 use Rattle.arbiter.proofs.Above.{Above, above}
 use Rattle.arbiter.proofs.figures.finish.Statement.{statement}
 use Rattle.arbiter.proofs.figures.finish.Tie as tie
 
 -- what the table's checks say of the sums above the place
 facts : (c : tie.Start) → Above maxPlaces (c .args .t1) (c .args .p)
-facts c = above maxPlaces (c .args .t1) (c .args .p) (sym (length-map (c .args .t1 .requestors) _) ∙ c .good .0 .1 .1 .1 .1 .0 .1 .0 .1) (c .pre .0) (c .pre .1)
+facts c = above maxPlaces (c .args .t1) (c .args .p) (table-rows (c .args .t1) (c .good .0)) (c .pre .0) (c .pre .1)
 
 mul-r : tie.Need-mul-r
 mul-r c = omega (arith, facts c .place)

@@ -4,16 +4,16 @@ use mathlib.Core.Path.{sym, ap₂, _∙_}
 use Prim.Native.Nat.{_-_}
 use native.Mathlib.Omega.{arith}
 use borrow.Author.Needs.{needs}
-use lib.ListN.{length-map}
 use Rattle.arbiter.specs.Limits.{maxPlaces}
 use Rattle.arbiter.specs.Figures.{waitOf}
+use Rattle.arbiter.proofs.Shapes.{table-rows}
 use Rattle.arbiter.proofs.Above.{Above, above}
 use Rattle.arbiter.proofs.figures.wait.Statement.{statement}
 use Rattle.arbiter.proofs.figures.wait.Tie as tie
 
 -- what the table's checks say of the sums above the place
 facts : (c : tie.Start) → Above maxPlaces (c .args .t) (c .args .p)
-facts c = above maxPlaces (c .args .t) (c .args .p) (sym (length-map (c .args .t .requestors) _) ∙ c .good .0 .1 .1 .1 .1 .0 .1 .0 .1) (c .pre .0) (c .pre .1)
+facts c = above maxPlaces (c .args .t) (c .args .p) (table-rows (c .args .t) (c .good .0)) (c .pre .0) (c .pre .1)
 
 cast-left : tie.Need-cast-left
 cast-left c = search needs

@@ -10,6 +10,7 @@ use Rattle.arbiter.specs.Limits.{maxPlaces}
 use Rattle.arbiter.specs.Table.{noRequestor}
 use Rattle.arbiter.specs.State.{noAccount}
 use Rattle.arbiter.specs.Start.{fresh}
+use Rattle.arbiter.proofs.Shapes.{table-rows}
 use Rattle.arbiter.proofs.start.opening_accounts.Statement.{statement}
 use Rattle.arbiter.proofs.start.opening_accounts.Tie as tie
 
@@ -21,7 +22,7 @@ abbrev μ-loop : tie.MeasureT-loop
 
 -- the rows of the table, and the accounts so far
 rows : (c : tie.Start Inv-loop μ-loop) → length (c .args .t1 .requestors) ≡ maxPlaces
-rows c = sym (length-map (c .args .t1 .requestors) _) ∙ c .good .0 .1 .1 .1 .1 .0 .1 .0 .1
+rows c = table-rows (c .args .t1) (c .good .0)
 
 loop-holds : tie.Need-loop-holds Inv-loop μ-loop
 loop-holds c = (omega arith, refl, refl)

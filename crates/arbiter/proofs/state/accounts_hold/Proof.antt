@@ -7,7 +7,7 @@ use Prim.Native.Nat.{ℕ, _+_, _-_, _≤_, _<_, suc, _*_}
 use native.Mathlib.Omega.{arith}
 use native.Mathlib.Numerals.{add-one}
 use borrow.Author.Tests.{le-leb, lt-leb}
-use lib.ListN.{length, length-map, take, getD, length-take}
+use lib.ListN.{length, take, getD, length-take}
 use lib.Seq.{getD-take}
 use Rattle.lists.specs.Sums.{total, every, upTo}
 use Rattle.lists.proofs.Tests.{true-and, and-false, every-more, every-fails, up-to-fails}
@@ -17,6 +17,7 @@ use Rattle.arbiter.specs.declared.state.Account.{Account}
 use Rattle.arbiter.specs.Limits.{maxPlaces}
 use Rattle.arbiter.specs.Table.{burst, noRequestor}
 use Rattle.arbiter.specs.State.{credit, noAccount, backlogFits, creditsHold, accountsHold}
+use Rattle.arbiter.proofs.Shapes.{shaped}
 use Rattle.arbiter.proofs.state.accounts_hold.Statement.{statement}
 use Rattle.arbiter.proofs.state.accounts_hold.Tie as tie
 
@@ -61,7 +62,7 @@ abbrev μ-loop : tie.MeasureT-loop
 
 -- the array's length
 long : (c : tie.Start Inv-loop μ-loop) → length (c .args .t1 .accounts) ≡ maxPlaces
-long c = sym (length-map (c .args .t1 .accounts) _) ∙ c .good .0 .1 .1 .1 .1 .0 .1 .0 .1
+long c = shaped (c .args .t1) (c .good .0) .accounts
 
 loop-holds : tie.Need-loop-holds Inv-loop μ-loop
 loop-holds c = held-none _ _ _

@@ -1,5 +1,5 @@
 -- `arbiter::sums::bursts_above` meets its contract. By the sum of the column. Assumes nothing.
-use mathlib.Core.Path.{_≡_, ap, sym, _∙_}
+use mathlib.Core.Path.{_≡_, ap, _∙_}
 use Prim.Native.Nat.{_≤_}
 use native.Mathlib.Omega.{arith}
 use borrow.Author.Needs.{needs}
@@ -8,12 +8,13 @@ use Rattle.arbiter.specs.Limits.{maxPlaces}
 use Rattle.arbiter.specs.Table.{burst}
 use Rattle.lists.proofs.Sums.{total-take-map}
 use Rattle.lists.specs.Sums.{total}
+use Rattle.arbiter.proofs.Shapes.{table-rows}
 use Rattle.arbiter.proofs.sums.bursts_above.Statement.{statement}
 use Rattle.arbiter.proofs.sums.bursts_above.Tie as tie
 
 -- the table has its rows
 rows : (c : tie.Start) → length (c .args .t .requestors) ≡ maxPlaces
-rows c = sym (length-map (c .args .t .requestors) _) ∙ c .good .0 .1 .1 .1 .1 .0 .1 .0 .1
+rows c = table-rows (c .args .t) (c .good .0)
 
 columns-of-requires : tie.Need-columns-of-requires
 columns-of-requires c κs = search needs

@@ -8,6 +8,7 @@ use lib.ListN.{length, length-map, length-replicate, take, drop, List·getD-map}
 use Rattle.arbiter.specs.Limits.{maxPlaces}
 use Rattle.arbiter.specs.Table.{noRequestor, rate, burst}
 use Rattle.lists.proofs.Overwriting.{overwrite-more, overwrite-all}
+use Rattle.arbiter.proofs.Shapes.{table-rows}
 use Rattle.arbiter.proofs.sums.columns_of.Statement.{statement}
 use Rattle.arbiter.proofs.sums.columns_of.Tie as tie
 
@@ -19,7 +20,7 @@ abbrev μ-loop : tie.MeasureT-loop
 
 -- the table has its rows
 rows : (c : tie.Start Inv-loop μ-loop) → length (c .args .t1 .requestors) ≡ maxPlaces
-rows c = sym (length-map (c .args .t1 .requestors) _) ∙ c .good .0 .1 .1 .1 .1 .0 .1 .0 .1
+rows c = table-rows (c .args .t1) (c .good .0)
 
 loop-holds : tie.Need-loop-holds Inv-loop μ-loop
 loop-holds c = (omega arith, simp length-replicate refl, simp length-replicate refl, refl, refl)

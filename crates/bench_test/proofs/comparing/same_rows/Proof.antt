@@ -1,14 +1,15 @@
 -- `bench_test::comparing::same_rows` is safe and ends, after the sixteenth place. Assumes nothing.
 use Prim.Native.Nat.{_≤_, _-_}
 use borrow.Author.Needs.{needs}
+use Rattle.arbiter.specs.Limits.{maxPlaces}
 use Rattle.bench_test.proofs.comparing.same_rows.Statement.{statement}
 use Rattle.bench_test.proofs.comparing.same_rows.Tie as tie
 
 abbrev Inv-loop : tie.InvT-loop
-Inv-loop a b p₀ p = p ≤ 16
+Inv-loop a b p₀ p = p ≤ maxPlaces
 
 abbrev μ-loop : tie.MeasureT-loop
-μ-loop a b p₀ p = 16 - p
+μ-loop a b p₀ p = maxPlaces - p
 
 loop-holds : tie.Need-loop-holds Inv-loop μ-loop
 loop-holds c = search needs

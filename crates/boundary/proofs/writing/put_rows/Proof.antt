@@ -1,10 +1,11 @@
 -- `boundary::writing::put_rows` meets its contract. The loop's invariant: the words of the first p stand in front of what was there. Assumes nothing.
-use mathlib.Core.Path.{_≡_, refl, sym, _∙_}
+use mathlib.Core.Path.{_≡_, refl, _∙_}
 use Prim.Native.Nat.{_-_, _≤_}
 use native.Mathlib.Omega.{arith}
 use borrow.Author.Needs.{needs}
-use lib.ListN.{length, length-map, length-set, take}
+use lib.ListN.{length, length-set, take}
 use Rattle.arbiter.specs.Limits.{maxPlaces}
+use Rattle.arbiter.proofs.Shapes.{table-rows}
 use Rattle.boundary.proofs.Filling.{put-none, put-all, rows-length, row-put}
 use Rattle.boundary.specs.Words.{rowWords}
 use Rattle.lists.specs.Overwriting.{writtenOver}
@@ -20,7 +21,7 @@ abbrev μ-loop : tie.MeasureT-loop
 
 -- the array's length
 long : (c : tie.Start Inv-loop μ-loop) → length (c .args .t1 .requestors) ≡ maxPlaces
-long c = sym (length-map (c .args .t1 .requestors) _) ∙ c .good .0 .1 .1 .1 .1 .0 .1 .0 .1
+long c = table-rows (c .args .t1) (c .good .0)
 
 loop-holds : tie.Need-loop-holds Inv-loop μ-loop
 loop-holds c = (omega arith, put-none rowWords (c .args .t1 .requestors) _)

@@ -3,9 +3,10 @@ use mathlib.Core.List.{_++_}
 use mathlib.Core.Path.{_≡_, refl, ap, sym, _∙_}
 use native.Mathlib.Omega.{arith}
 use borrow.Author.Needs.{needs}
-use lib.ListN.{length, length-map, length-set}
+use lib.ListN.{length, length-set}
 use Rattle.arbiter.specs.Limits.{maxPlaces}
 use Rattle.arbiter.specs.State.{Shaped}
+use Rattle.arbiter.proofs.Shapes.{shaped}
 use Rattle.boundary.proofs.Filling.{front-length, part-length, more-put, head-put, state-put}
 use Rattle.boundary.proofs.Words.{length-rows, length-state}
 use Rattle.boundary.specs.Words.{rowWords, accountWords, headWords, accountStart}
@@ -13,15 +14,9 @@ use Rattle.lists.specs.Sums.{joined}
 use Rattle.boundary.proofs.writing.put_state.Statement.{statement}
 use Rattle.boundary.proofs.writing.put_state.Tie as tie
 
--- the arrays' lengths
-long-rows : (c : tie.Start) → length (c .args .s .table .requestors) ≡ maxPlaces
-long-rows c = sym (length-map (c .args .s .table .requestors) _) ∙ c .good .0 .1 .1 .0 .1 .1 .1 .1 .0 .1 .0 .1
-
-long-accounts : (c : tie.Start) → length (c .args .s .accounts) ≡ maxPlaces
-long-accounts c = sym (length-map (c .args .s .accounts) _) ∙ c .good .0 .1 .1 .1 .1 .0 .1 .0 .1
-
-shaped : (c : tie.Start) → Shaped maxPlaces (c .args .s)
-shaped c = record { rows = long-rows c; accounts = long-accounts c }
+-- the arrays have their lengths
+shape : (c : tie.Start) → Shaped maxPlaces (c .args .s)
+shape c = shaped (c .args .s) (c .good .0)
 
 cast-words : tie.Need-cast-words
 cast-words c = search needs
@@ -64,7 +59,7 @@ sub-put-accounts c =
     let at-put-rows = c .before .before .put-rows in
     let at-before = c .before .before .before .before .before .before .before .before in
     omega
-    (arith, at-pre, front-length (headWords (at-args .s) ++ (joined rowWords (at-args .s .table .requestors))) (at-args .words .now) _ (accountStart maxPlaces 0) (more-put (headWords (at-args .s)) (at-args .words .now) _ 3 (head-put (at-args .s) _ (omega (arith, at-pre))) refl (omega (arith, at-pre)) (joined rowWords (at-args .s .table .requestors)) _ (at-put-rows .ensures)) (omega (arith, length-rows (at-args .s .table .requestors), long-rows (at-before))) (omega (arith, at-pre)))
+    (arith, at-pre, front-length (headWords (at-args .s) ++ (joined rowWords (at-args .s .table .requestors))) (at-args .words .now) _ (accountStart maxPlaces 0) (more-put (headWords (at-args .s)) (at-args .words .now) _ 3 (head-put (at-args .s) _ (omega (arith, at-pre))) refl (omega (arith, at-pre)) (joined rowWords (at-args .s .table .requestors)) _ (at-put-rows .ensures)) (omega (arith, length-rows (at-args .s .table .requestors), shape (at-before) .rows)) (omega (arith, at-pre)))
 
 part-put-accounts-start : tie.Need-part-put-accounts-start
 part-put-accounts-start c =
@@ -73,7 +68,7 @@ part-put-accounts-start c =
     let at-put-rows = c .before .before .put-rows in
     let at-before = c .before .before .before .before .before .before .before .before in
     omega
-    (arith, at-pre, front-length (headWords (at-args .s) ++ (joined rowWords (at-args .s .table .requestors))) (at-args .words .now) _ (accountStart maxPlaces 0) (more-put (headWords (at-args .s)) (at-args .words .now) _ 3 (head-put (at-args .s) _ (omega (arith, at-pre))) refl (omega (arith, at-pre)) (joined rowWords (at-args .s .table .requestors)) _ (at-put-rows .ensures)) (omega (arith, length-rows (at-args .s .table .requestors), long-rows (at-before))) (omega (arith, at-pre)))
+    (arith, at-pre, front-length (headWords (at-args .s) ++ (joined rowWords (at-args .s .table .requestors))) (at-args .words .now) _ (accountStart maxPlaces 0) (more-put (headWords (at-args .s)) (at-args .words .now) _ 3 (head-put (at-args .s) _ (omega (arith, at-pre))) refl (omega (arith, at-pre)) (joined rowWords (at-args .s .table .requestors)) _ (at-put-rows .ensures)) (omega (arith, length-rows (at-args .s .table .requestors), shape (at-before) .rows)) (omega (arith, at-pre)))
 
 part-put-accounts-end : tie.Need-part-put-accounts-end
 part-put-accounts-end c = search needs
@@ -85,7 +80,7 @@ put-accounts-requires c κs =
     let at-put-rows = c .before .before .before .put-rows in
     let at-before = c .before .before .before .before .before .before .before .before .before in
     omega
-    (arith, at-pre, part-length (headWords (at-args .s) ++ (joined rowWords (at-args .s .table .requestors))) (at-args .words .now) _ (accountStart maxPlaces 0) (more-put (headWords (at-args .s)) (at-args .words .now) _ 3 (head-put (at-args .s) _ (omega (arith, at-pre))) refl (omega (arith, at-pre)) (joined rowWords (at-args .s .table .requestors)) _ (at-put-rows .ensures)) (omega (arith, length-rows (at-args .s .table .requestors), long-rows (at-before))) (omega (arith, at-pre)))
+    (arith, at-pre, part-length (headWords (at-args .s) ++ (joined rowWords (at-args .s .table .requestors))) (at-args .words .now) _ (accountStart maxPlaces 0) (more-put (headWords (at-args .s)) (at-args .words .now) _ 3 (head-put (at-args .s) _ (omega (arith, at-pre))) refl (omega (arith, at-pre)) (joined rowWords (at-args .s .table .requestors)) _ (at-put-rows .ensures)) (omega (arith, length-rows (at-args .s .table .requestors), shape (at-before) .rows)) (omega (arith, at-pre)))
 
 same-length : tie.Need-same-length
 same-length c =
@@ -95,8 +90,8 @@ same-length c =
     let at-before = c .before .before .before .before .before .before .before .before .before .before .before .before in
     let at-put-accounts = c .before .before .put-accounts in
     ap length
-    (more-put (headWords (at-args .s) ++ (joined rowWords (at-args .s .table .requestors))) (at-args .words .now) _ (accountStart maxPlaces 0) (more-put (headWords (at-args .s)) (at-args .words .now) _ 3 (head-put (at-args .s) _ (omega (arith, at-pre))) refl (omega (arith, at-pre)) (joined rowWords (at-args .s .table .requestors)) _ (at-put-rows .ensures)) (omega (arith, length-rows (at-args .s .table .requestors), long-rows (at-before))) (omega (arith, at-pre)) (joined accountWords (at-args .s .accounts)) _ (at-put-accounts .ensures) ∙ state-put (at-args .s) (at-args .words .now) maxPlaces (shaped (at-before)) (at-pre)) ∙
-    length-state maxPlaces (at-args .s) (shaped (at-before)) ∙ sym (at-pre)
+    (more-put (headWords (at-args .s) ++ (joined rowWords (at-args .s .table .requestors))) (at-args .words .now) _ (accountStart maxPlaces 0) (more-put (headWords (at-args .s)) (at-args .words .now) _ 3 (head-put (at-args .s) _ (omega (arith, at-pre))) refl (omega (arith, at-pre)) (joined rowWords (at-args .s .table .requestors)) _ (at-put-rows .ensures)) (omega (arith, length-rows (at-args .s .table .requestors), shape (at-before) .rows)) (omega (arith, at-pre)) (joined accountWords (at-args .s .accounts)) _ (at-put-accounts .ensures) ∙ state-put (at-args .s) (at-args .words .now) maxPlaces (shape (at-before)) (at-pre)) ∙
+    length-state maxPlaces (at-args .s) (shape (at-before)) ∙ sym (at-pre)
 
 returns : tie.Need-returns
 returns c =
@@ -105,7 +100,7 @@ returns c =
     let at-put-rows = c .before .before .before .before .before .before .put-rows in
     let at-before = c .before .before .before .before .before .before .before .before .before .before .before .before in
     let at-put-accounts = c .before .before .put-accounts in
-    (more-put (headWords (at-args .s) ++ (joined rowWords (at-args .s .table .requestors))) (at-args .words .now) _ (accountStart maxPlaces 0) (more-put (headWords (at-args .s)) (at-args .words .now) _ 3 (head-put (at-args .s) _ (omega (arith, at-pre))) refl (omega (arith, at-pre)) (joined rowWords (at-args .s .table .requestors)) _ (at-put-rows .ensures)) (omega (arith, length-rows (at-args .s .table .requestors), long-rows (at-before))) (omega (arith, at-pre)) (joined accountWords (at-args .s .accounts)) _ (at-put-accounts .ensures) ∙ state-put (at-args .s) (at-args .words .now) maxPlaces (shaped (at-before)) (at-pre))
+    (more-put (headWords (at-args .s) ++ (joined rowWords (at-args .s .table .requestors))) (at-args .words .now) _ (accountStart maxPlaces 0) (more-put (headWords (at-args .s)) (at-args .words .now) _ 3 (head-put (at-args .s) _ (omega (arith, at-pre))) refl (omega (arith, at-pre)) (joined rowWords (at-args .s .table .requestors)) _ (at-put-rows .ensures)) (omega (arith, length-rows (at-args .s .table .requestors), shape (at-before) .rows)) (omega (arith, at-pre)) (joined accountWords (at-args .s .accounts)) _ (at-put-accounts .ensures) ∙ state-put (at-args .s) (at-args .words .now) maxPlaces (shape (at-before)) (at-pre))
 
 pub put-state-spec : {M : Type 1} → statement M
 put-state-spec =

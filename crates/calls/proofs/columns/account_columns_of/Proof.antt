@@ -9,6 +9,7 @@ use lib.ListN.{length, getD, set, length-map, length-replicate, take, drop, List
 use Rattle.arbiter.specs.declared.state.Account.{Account}
 use Rattle.arbiter.specs.Limits.{maxPlaces}
 use Rattle.arbiter.specs.State.{noAccount, credit, backlog}
+use Rattle.arbiter.proofs.Shapes.{shaped}
 use Rattle.lists.proofs.Overwriting.{overwrite-more, overwrite-all}
 use Rattle.calls.proofs.columns.account_columns_of.Statement.{statement}
 use Rattle.calls.proofs.columns.account_columns_of.Tie as tie
@@ -25,7 +26,7 @@ abbrev μ-loop : tie.MeasureT-loop
 
 -- the state has its accounts
 long : (c : tie.Start Inv-loop μ-loop) → length (c .args .t1 .accounts) ≡ maxPlaces
-long c = sym (length-map (c .args .t1 .accounts) _) ∙ c .good .0 .1 .1 .1 .1 .0 .1 .0 .1
+long c = shaped (c .args .t1) (c .good .0) .accounts
 
 loop-holds : tie.Need-loop-holds Inv-loop μ-loop
 loop-holds c = (omega arith, (simp length-replicate refl, refl), (simp length-replicate refl, refl))

@@ -3,7 +3,6 @@ use mathlib.Core.Path.{_≡_, refl, sym, _∙_}
 use mathlib.Core.List.{_++_}
 use Prim.Native.Nat.{_-_, _≤_}
 use native.Mathlib.Omega.{arith}
-use borrow.Author.Needs.{needs}
 use lib.ListN.{length, length-replicate, take, drop}
 use Rattle.lists.proofs.Overwriting.{overwrite-more, overwrite-all}
 use Rattle.lists.proofs.Pairs.{length-paired}

@@ -6,11 +6,11 @@ use Prim.Native.Nat.{_≤_, _<_}
 use native.Mathlib.Omega.{arith}
 use borrow.Author.Tests.{not-true, not-false}
 use borrow.Author.Needs.{needs}
-use lib.ListN.{length-map}
 use Rattle.arbiter.specs.State.{sound, backlog, accountAt}
 use Rattle.arbiter.specs.Limits.{maxPlaces, maxBacklog}
 use Rattle.arbiter.proofs.Sound.{sound-open}
-use Rattle.calls.specs.Calls.{post, more, filled, done}
+use Rattle.arbiter.proofs.Shapes.{shaped}
+use Rattle.calls.specs.Calls.{post, withCount, withPost, done}
 use Rattle.calls.proofs.Verdicts.{called-unsound, called-refused, called-done, post-absent, post-over, post-within}
 use Rattle.calls.proofs.Room.{places-fit}
 use Rattle.calls.proofs.post.post.Statement.{statement}
@@ -26,11 +26,7 @@ inside : (c : tie.Else2) → (c .before .before .before .before .args .place < m
 inside c =
     let a = c .before .before .before .before in
     let s = a .args .t1 in
-    let v =
-    sound-open maxPlaces s
-    (sym (length-map (s .table .requestors) _) ∙ a .good .0 .1 .1 .0 .1 .1 .1 .1 .0 .1 .0 .1)
-    (sym (length-map (s .accounts) _) ∙ a .good .0 .1 .1 .1 .1 .0 .1 .0 .1)
-    (passed-23 (c .before .before)) in
+    let v = sound-open maxPlaces s (shaped s (a .good .0)) (passed-23 (c .before .before)) in
     (omega (arith, places-fit s v, c .if2 .left), v .backlog-most (a .args .place) (c .if2 .left))
 
 is-sound-requires : tie.Need-is-sound-requires
@@ -85,7 +81,7 @@ element-set-from-next : tie.Need-element-set-from-next
 element-set-from-next c = omega (arith, inside (c .before .before .before .before .before .before .before) .0)
 
 returns-4 : tie.Need-returns-4
-unfolding done filled more
+unfolding done withPost withCount
 returns-4 c =
     let e = c .before .before .before .before .before .before .before in
     let b = e .before .before in

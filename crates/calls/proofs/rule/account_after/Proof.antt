@@ -1,7 +1,7 @@
 -- `calls::rule::account_after` meets its contract. Served if the grant names the place, passed over if not. Assumes nothing.
 use borrow.Author.Tests.{eq-eqb, ne-eqb}
 use borrow.Author.Needs.{needs}
-use Rattle.calls.specs.Places.{accountAfter}
+use Rattle.calls.specs.Grants.{accountAfter}
 use Rattle.calls.proofs.rule.account_after.Statement.{statement}
 use Rattle.calls.proofs.rule.account_after.Tie as tie
 

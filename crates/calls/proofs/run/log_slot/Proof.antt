@@ -1,6 +1,5 @@
 -- `calls::run::log_slot` meets its contract. The slot, and its byte. Assumes nothing.
 use mathlib.Core.Path.{ap, _∙_}
-use native.Mathlib.Omega.{arith}
 use borrow.Author.Needs.{needs}
 use Rattle.calls.specs.Columns.{rowsOf, accountsOf, columnsAfter}
 use Rattle.calls.specs.Log.{grantByte}

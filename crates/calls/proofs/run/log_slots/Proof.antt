@@ -1,18 +1,19 @@
 -- `calls::run::log_slots` meets its contract. The loop's invariant: the first slots are done, their bytes stand in front of what the log
 -- held, and the columns are those of the state then. Assumes nothing.
-use mathlib.Core.Path.{_≡_, refl, ap, sym, _∙_}
+use mathlib.Core.Path.{_≡_, refl, ap, _∙_}
 use mathlib.Core.List.{List, map}
 use Prim.Native.Nat.{ℕ, _-_, _+_, _≤_}
 use native.Mathlib.Omega.{arith}
 use borrow.Author.Needs.{needs}
-use lib.ListN.{length, length-map, length-take, length-drop}
+use lib.ListN.{length, length-take, length-drop}
 use Rattle.arbiter.specs.declared.state.Arbiter.{Arbiter}
 use Rattle.arbiter.specs.declared.table.Table.{Table}
 use Rattle.arbiter.specs.declared.units.Slots.{Slots}
-use Rattle.arbiter.specs.Limits.{maxPlaces, maxSlot}
+use Rattle.arbiter.specs.Limits.{maxPlaces}
 use Rattle.arbiter.proofs.Sound.{Sound, sound-open}
 use Rattle.arbiter.specs.Table.{rate, burst}
 use Rattle.arbiter.specs.State.{credit, backlog}
+use Rattle.arbiter.proofs.Shapes.{shaped}
 use Rattle.calls.specs.Columns.{accountsOf}
 use Rattle.calls.proofs.InColumns.{Own, own-columns}
 use Rattle.calls.proofs.Room.{places-fit}
@@ -33,11 +34,11 @@ abbrev μ-loop : tie.MeasureT-loop
 
 -- the arrays have their lengths, and the state is sound
 long : (c : tie.Start Inv-loop μ-loop) → length (c .args .s .accounts) ≡ maxPlaces
-long c = sym (length-map (c .args .s .accounts) _) ∙ c .good .0 .1 .1 .1 .1 .0 .1 .0 .1
+long c = shaped (c .args .s) (c .good .0) .accounts
 
 sound-here : (c : tie.Start Inv-loop μ-loop) → Sound maxPlaces (c .args .s)
 sound-here c =
-    sound-open maxPlaces (c .args .s) (sym (length-map (c .args .s .table .requestors) _) ∙ c .good .0 .1 .1 .0 .1 .1 .1 .1 .0 .1 .0 .1) (long c) (c .pre .0)
+    sound-open maxPlaces (c .args .s) (shaped (c .args .s) (c .good .0)) (c .pre .0)
 
 -- the columns are the state's, and so is the state that they were taken from
 own-here : (c : tie.Start Inv-loop μ-loop) (rates bursts credits backlogs : List ℕ) → rates ≡ map rate (c .args .s .table .requestors) → bursts ≡ map burst (c .args .s .table .requestors)

@@ -3,11 +3,11 @@ use mathlib.Core.Path.{_≡_, ap, ap₂, sym, _∙_}
 use mathlib.Core.Bool.{true}
 use borrow.Author.Tests.{not-true, not-false}
 use borrow.Author.Needs.{needs}
-use lib.ListN.{length-map}
 use Rattle.arbiter.specs.Limits.{maxPlaces}
 use Rattle.arbiter.specs.Refusals.{verdictOf, then}
 use Rattle.arbiter.specs.State.{sound}
 use Rattle.arbiter.proofs.Sound.{Sound, sound-open}
+use Rattle.arbiter.proofs.Shapes.{shaped}
 use Rattle.calls.proofs.Logs.{lengthVerdict, run-unsound, run-refused, run-done, run-below}
 use Rattle.calls.proofs.run.run.Statement.{statement}
 use Rattle.calls.proofs.run.run.Tie as tie
@@ -19,9 +19,7 @@ passed-23 c = sym (c .before .is-sound .ensures) ∙ not-false _ (c .if1 .left)
 sound-here : (c : tie.Else1) → Sound maxPlaces (c .before .before .before .args .s)
 sound-here c =
     let a = c .before .before .before in
-    sound-open maxPlaces (a .args .s)
-    (sym (length-map (a .args .s .table .requestors) _) ∙ a .good .0 .1 .1 .0 .1 .1 .1 .1 .0 .1 .0 .1)
-    (sym (length-map (a .args .s .accounts) _) ∙ a .good .0 .1 .1 .1 .1 .0 .1 .0 .1) (passed-23 c)
+    sound-open maxPlaces (a .args .s) (shaped (a .args .s) (a .good .0)) (passed-23 c)
 
 -- what 13 and 22 find
 found : (c : tie.After-first-fault) → verdictOf (c .first-fault .result)

@@ -1,22 +1,23 @@
 -- `calls::slot::advance_state` meets its contract. The state's own columns give its grant and its accounts. Assumes nothing.
-use mathlib.Core.Path.{_≡_, ap, sym, _∙_}
+use mathlib.Core.Path.{_≡_, ap, _∙_}
 use native.Mathlib.Omega.{arith}
 use borrow.Author.Needs.{needs}
-use lib.ListN.{length, length-map}
+use lib.ListN.{length}
 use Rattle.arbiter.specs.Limits.{maxPlaces}
 use Rattle.arbiter.proofs.Sound.{Sound, sound-open}
-use Rattle.calls.specs.Calls.{grantOf, advanced}
+use Rattle.arbiter.proofs.Shapes.{shaped}
+use Rattle.calls.specs.Calls.{advanced}
 use Rattle.calls.proofs.InColumns.{own-columns, own-room, own-grant, own-after}
 use Rattle.calls.proofs.slot.advance_state.Statement.{statement}
 use Rattle.calls.proofs.slot.advance_state.Tie as tie
 
 -- the arrays have their lengths, and the state is sound
 long : (c : tie.Start) → length (c .args .s .accounts) ≡ maxPlaces
-long c = sym (length-map (c .args .s .accounts) _) ∙ c .good .0 .1 .1 .1 .1 .0 .1 .0 .1
+long c = shaped (c .args .s) (c .good .0) .accounts
 
 sound-here : (c : tie.Start) → Sound maxPlaces (c .args .s)
 sound-here c =
-    sound-open maxPlaces (c .args .s) (sym (length-map (c .args .s .table .requestors) _) ∙ c .good .0 .1 .1 .0 .1 .1 .1 .1 .0 .1 .0 .1) (long c) (c .pre .0)
+    sound-open maxPlaces (c .args .s) (shaped (c .args .s) (c .good .0)) (c .pre .0)
 
 columns-of-requires : tie.Need-columns-of-requires
 columns-of-requires c κs = search needs

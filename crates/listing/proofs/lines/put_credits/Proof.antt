@@ -1,11 +1,13 @@
 -- `listing::lines::put_credits` meets its contract. The loop's invariant: the credits of the first p places are put. Assumes nothing.
-use mathlib.Core.Path.{_≡_, ap, sym, _∙_}
+use mathlib.Core.Path.{_≡_, ap, _∙_}
 use Prim.Native.Nat.{_-_, _≤_}
 use native.Mathlib.Omega.{arith}
 use borrow.Author.Needs.{needs}
-use lib.ListN.{length, length-map}
+use lib.ListN.{length}
 use Rattle.arbiter.specs.State.{accountAt}
-use Rattle.listing.proofs.Writing.{Put, creditsTo, spacedCredit, put-inside, put-room, put-next, put-length, put-whole, credits-none, credits-all, credits-fit, credits-next}
+use Rattle.arbiter.proofs.Shapes.{shaped}
+use Rattle.lists.proofs.Putting.{Put, put-inside, put-room, put-next, put-length, put-whole}
+use Rattle.listing.proofs.Writing.{creditsTo, spacedCredit, credits-none, credits-all, credits-fit, credits-next}
 use Rattle.listing.proofs.lines.put_credits.Statement.{statement}
 use Rattle.listing.proofs.lines.put_credits.Tie as tie
 
@@ -17,7 +19,7 @@ abbrev μ-loop : tie.MeasureT-loop
 
 -- N is at most the length of the accounts
 inside : (c : tie.Start Inv-loop μ-loop) → c .args .t1 .table .count ≤ length (c .args .t1 .accounts)
-inside c = rw (sym (length-map (c .args .t1 .accounts) _) ∙ c .good .0 .1 .1 .1 .1 .0 .1 .0 .1) (c .pre .0)
+inside c = rw (shaped (c .args .t1) (c .good .0) .accounts) (c .pre .0)
 
 -- the credits of all N places fit in the buffer
 fits : (c : tie.Start Inv-loop μ-loop) → length (creditsTo (c .args .t1 .table .count) (c .args .t1 .accounts)) ≤ length (c .args .out .now)

@@ -2,7 +2,8 @@
 use native.Mathlib.Omega.{arith}
 use borrow.Author.Needs.{needs}
 use lib.ListN.{length-append}
-use Rattle.listing.proofs.Writing.{put-first, put-inside, put-room, put-next, put-byte, put-length, put-whole, two-length, line-of-two}
+use Rattle.lists.proofs.Putting.{put-first, put-inside, put-room, put-next, put-byte, put-length, put-whole}
+use Rattle.listing.proofs.Writing.{two-length, line-of-two}
 use Rattle.listing.specs.Text.{decimal, spaced}
 use Rattle.listing.proofs.lines.put_line.Statement.{statement}
 use Rattle.listing.proofs.lines.put_line.Tie as tie

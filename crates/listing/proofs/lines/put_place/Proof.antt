@@ -1,7 +1,6 @@
 -- `listing::lines::put_place` meets its contract. By the grant. Assumes nothing.
-use mathlib.Core.Path.{ap, sym, _∙_}
+use mathlib.Core.Path.{_∙_}
 use borrow.Author.Needs.{needs}
-use Rattle.listing.specs.Lines.{placeItem}
 use Rattle.listing.specs.Text.{spaced}
 use Rattle.listing.proofs.lines.put_place.Statement.{statement}
 use Rattle.listing.proofs.lines.put_place.Tie as tie

@@ -1,7 +1,7 @@
 -- `listing::lines::put_refused` meets its contract. The word and the refusal's number. Assumes nothing.
 use mathlib.Core.Path.{ap}
 use borrow.Author.Needs.{needs}
-use Rattle.listing.proofs.Writing.{put-named}
+use Rattle.lists.proofs.Putting.{put-named}
 use Rattle.listing.specs.Lines.{refusedLine}
 use Rattle.listing.proofs.lines.put_refused.Statement.{statement}
 use Rattle.listing.proofs.lines.put_refused.Tie as tie

@@ -3,7 +3,8 @@ use mathlib.Core.List.{_++_}
 use native.Mathlib.Omega.{arith}
 use borrow.Author.Needs.{needs}
 use lib.ListN.{length-append}
-use Rattle.listing.proofs.Writing.{put-first, put-inside, put-room, put-next, put-byte, put-length, put-whole, slot-room, slot-text}
+use Rattle.lists.proofs.Putting.{put-first, put-inside, put-room, put-next, put-byte, put-length, put-whole}
+use Rattle.listing.proofs.Writing.{slot-room, slot-text}
 use Rattle.listing.specs.Lines.{placeItem, creditItems}
 use Rattle.listing.specs.Text.{decimal, spaced}
 use Rattle.lists.specs.Sums.{joined}

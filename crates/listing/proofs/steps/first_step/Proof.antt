@@ -8,7 +8,7 @@ use Rattle.arbiter.specs.Limits.{maxPlaces}
 use Rattle.arbiter.specs.Refusals.{refusal, refusalOf}
 use Rattle.arbiter.specs.Start.{noState}
 use Rattle.listing.proofs.Telling.{header-fits, without-room, with-room, first-begins, first-refused, told-text}
-use Rattle.listing.proofs.Writing.{put-first, put-next, put-inside, put-room, put-length, put-whole}
+use Rattle.lists.proofs.Putting.{put-first, put-next, put-inside, put-room, put-length}
 use Rattle.listing.specs.Lines.{header, refusedLine}
 use Rattle.listing.specs.Listing.{more, last, firstStep}
 use Rattle.listing.specs.Parts.{begunAs}

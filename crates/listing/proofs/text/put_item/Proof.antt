@@ -1,7 +1,8 @@
 -- `listing::text::put_item` meets its contract. A space, and the number behind it. Assumes nothing.
 use native.Mathlib.Omega.{arith}
 use borrow.Author.Needs.{needs}
-use Rattle.listing.proofs.Writing.{put-none, put-byte, put-inside, put-room, put-next, put-length, put-whole, item-length, item-text}
+use Rattle.lists.proofs.Putting.{put-none, put-byte, put-inside, put-room, put-next, put-length, put-whole}
+use Rattle.listing.proofs.Writing.{item-length, item-text}
 use Rattle.listing.specs.Text.{decimal}
 use Rattle.listing.proofs.text.put_item.Statement.{statement}
 use Rattle.listing.proofs.text.put_item.Tie as tie

@@ -2,7 +2,7 @@
 use native.Mathlib.Omega.{arith}
 use borrow.Author.Needs.{needs}
 use Rattle.listing.proofs.Digits.{decimal-put}
-use Rattle.listing.proofs.Writing.{put-named}
+use Rattle.lists.proofs.Putting.{put-named}
 use Rattle.listing.proofs.text.put_number.Statement.{statement}
 use Rattle.listing.proofs.text.put_number.Tie as tie
 

@@ -1,14 +1,15 @@
--- `model::bytes::put_table` is safe and ends, after at most 66 turns. Assumes nothing.
+-- `model::bytes::put_table` is safe and ends, after a turn for each number at most. Assumes nothing.
 use Prim.Native.Nat.{_≤_, _-_}
 use borrow.Author.Needs.{needs}
+use Rattle.model.specs.Sizes.{allNumbers}
 use Rattle.model.proofs.bytes.put_table.Statement.{statement}
 use Rattle.model.proofs.bytes.put_table.Tie as tie
 
 abbrev Inv-loop : tie.InvT-loop
-Inv-loop w bytes₀ long more next₀ k₀ bytes next k = k ≤ 66
+Inv-loop w bytes₀ long more next₀ k₀ bytes next k = k ≤ allNumbers
 
 abbrev μ-loop : tie.MeasureT-loop
-μ-loop w bytes₀ long more next₀ k₀ bytes next k = 66 - k
+μ-loop w bytes₀ long more next₀ k₀ bytes next k = allNumbers - k
 
 loop-holds : tie.Need-loop-holds Inv-loop μ-loop
 loop-holds c = search needs

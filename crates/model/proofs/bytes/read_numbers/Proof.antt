@@ -1,14 +1,15 @@
--- `model::bytes::read_numbers` is safe and ends, after at most 66 turns. Assumes nothing.
+-- `model::bytes::read_numbers` is safe and ends, after a turn for each number at most. Assumes nothing.
 use Prim.Native.Nat.{_≤_, _-_}
 use borrow.Author.Needs.{needs}
+use Rattle.model.specs.Sizes.{allNumbers}
 use Rattle.model.proofs.bytes.read_numbers.Statement.{statement}
 use Rattle.model.proofs.bytes.read_numbers.Tie as tie
 
 abbrev Inv-loop : tie.InvT-loop
-Inv-loop bytes length w₀ fault₀ next₀ k₀ w fault next k = k ≤ 66
+Inv-loop bytes length w₀ fault₀ next₀ k₀ w fault next k = k ≤ allNumbers
 
 abbrev μ-loop : tie.MeasureT-loop
-μ-loop bytes length w₀ fault₀ next₀ k₀ w fault next k = 66 - k
+μ-loop bytes length w₀ fault₀ next₀ k₀ w fault next k = allNumbers - k
 
 loop-holds : tie.Need-loop-holds Inv-loop μ-loop
 loop-holds c = search needs

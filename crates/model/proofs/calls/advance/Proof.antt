@@ -1,14 +1,15 @@
--- `model::calls::advance` is safe and ends, after at most 16 turns. Assumes nothing.
+-- `model::calls::advance` is safe and ends, after a turn for each place at most. Assumes nothing.
 use Prim.Native.Nat.{_≤_, _-_}
 use borrow.Author.Needs.{needs}
+use Rattle.model.specs.Sizes.{allPlaces}
 use Rattle.model.proofs.calls.advance.Statement.{statement}
 use Rattle.model.proofs.calls.advance.Tie as tie
 
 abbrev Inv-loop : tie.InvT-loop
-Inv-loop w₀ granted p₀ w p = p ≤ 16
+Inv-loop w₀ granted p₀ w p = p ≤ allPlaces
 
 abbrev μ-loop : tie.MeasureT-loop
-μ-loop w₀ granted p₀ w p = 16 - p
+μ-loop w₀ granted p₀ w p = allPlaces - p
 
 winner-requires : tie.Need-winner-requires Inv-loop μ-loop
 winner-requires c κs = search needs

@@ -1,14 +1,15 @@
--- `model::state::open_accounts` is safe and ends, after at most 16 turns. Assumes nothing.
+-- `model::state::open_accounts` is safe and ends, after a turn for each place at most. Assumes nothing.
 use Prim.Native.Nat.{_≤_, _-_}
 use borrow.Author.Needs.{needs}
+use Rattle.model.specs.Sizes.{allPlaces}
 use Rattle.model.proofs.state.open_accounts.Statement.{statement}
 use Rattle.model.proofs.state.open_accounts.Tie as tie
 
 abbrev Inv-loop : tie.InvT-loop
-Inv-loop w₀ p₀ w p = p ≤ 16
+Inv-loop w₀ p₀ w p = p ≤ allPlaces
 
 abbrev μ-loop : tie.MeasureT-loop
-μ-loop w₀ p₀ w p = 16 - p
+μ-loop w₀ p₀ w p = allPlaces - p
 
 loop-holds : tie.Need-loop-holds Inv-loop μ-loop
 loop-holds c = search needs

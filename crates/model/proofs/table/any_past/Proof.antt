@@ -1,14 +1,15 @@
--- `model::table::any_past` is safe and ends, after at most 16 turns. Assumes nothing.
+-- `model::table::any_past` is safe and ends, after a turn for each place at most. Assumes nothing.
 use Prim.Native.Nat.{_≤_, _-_}
 use borrow.Author.Needs.{needs}
+use Rattle.model.specs.Sizes.{allPlaces}
 use Rattle.model.proofs.table.any_past.Statement.{statement}
 use Rattle.model.proofs.table.any_past.Tie as tie
 
 abbrev Inv-loop : tie.InvT-loop
-Inv-loop w first last found₀ p₀ found p = p ≤ 16
+Inv-loop w first last found₀ p₀ found p = p ≤ allPlaces
 
 abbrev μ-loop : tie.MeasureT-loop
-μ-loop w first last found₀ p₀ found p = 16 - p
+μ-loop w first last found₀ p₀ found p = allPlaces - p
 
 loop-holds : tie.Need-loop-holds Inv-loop μ-loop
 loop-holds c = search needs

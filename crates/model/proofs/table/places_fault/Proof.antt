@@ -1,14 +1,15 @@
--- `model::table::places_fault` is safe and ends, after at most 66 turns. Assumes nothing.
+-- `model::table::places_fault` is safe and ends, after a turn for each number at most. Assumes nothing.
 use Prim.Native.Nat.{_≤_, _-_}
 use borrow.Author.Needs.{needs}
+use Rattle.model.specs.Sizes.{allNumbers}
 use Rattle.model.proofs.table.places_fault.Statement.{statement}
 use Rattle.model.proofs.table.places_fault.Tie as tie
 
 abbrev Inv-loop : tie.InvT-loop
-Inv-loop w fault₀ k₀ fault k = k ≤ 66
+Inv-loop w fault₀ k₀ fault k = k ≤ allNumbers
 
 abbrev μ-loop : tie.MeasureT-loop
-μ-loop w fault₀ k₀ fault k = 66 - k
+μ-loop w fault₀ k₀ fault k = allNumbers - k
 
 loop-holds : tie.Need-loop-holds Inv-loop μ-loop
 loop-holds c = search needs

@@ -1,14 +1,15 @@
--- `model::words::clear` is safe and ends, after at most 99 turns. Assumes nothing.
+-- `model::words::clear` is safe and ends, after a turn for each word at most. Assumes nothing.
 use Prim.Native.Nat.{_≤_, _-_}
 use borrow.Author.Needs.{needs}
+use Rattle.model.specs.Sizes.{allWords}
 use Rattle.model.proofs.words.clear.Statement.{statement}
 use Rattle.model.proofs.words.clear.Tie as tie
 
 abbrev Inv-loop : tie.InvT-loop
-Inv-loop w₀ i₀ w i = i ≤ 99
+Inv-loop w₀ i₀ w i = i ≤ allWords
 
 abbrev μ-loop : tie.MeasureT-loop
-μ-loop w₀ i₀ w i = 99 - i
+μ-loop w₀ i₀ w i = allWords - i
 
 loop-holds : tie.Need-loop-holds Inv-loop μ-loop
 loop-holds c = search needs

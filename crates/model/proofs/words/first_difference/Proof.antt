@@ -1,14 +1,15 @@
--- `model::words::first_difference` is safe and ends, after at most 99 turns. Assumes nothing.
+-- `model::words::first_difference` is safe and ends, after a turn for each word at most. Assumes nothing.
 use Prim.Native.Nat.{_≤_, _-_}
 use borrow.Author.Needs.{needs}
+use Rattle.model.specs.Sizes.{allWords}
 use Rattle.model.proofs.words.first_difference.Statement.{statement}
 use Rattle.model.proofs.words.first_difference.Tie as tie
 
 abbrev Inv-loop : tie.InvT-loop
-Inv-loop a b found₀ i₀ found i = i ≤ 99
+Inv-loop a b found₀ i₀ found i = i ≤ allWords
 
 abbrev μ-loop : tie.MeasureT-loop
-μ-loop a b found₀ i₀ found i = 99 - i
+μ-loop a b found₀ i₀ found i = allWords - i
 
 loop-holds : tie.Need-loop-holds Inv-loop μ-loop
 loop-holds c = search needs

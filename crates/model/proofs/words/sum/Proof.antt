@@ -1,14 +1,15 @@
--- `model::words::sum` is safe and ends, after at most 16 turns. Assumes nothing.
+-- `model::words::sum` is safe and ends, after a turn for each place at most. Assumes nothing.
 use Prim.Native.Nat.{_≤_, _-_}
 use borrow.Author.Needs.{needs}
+use Rattle.model.specs.Sizes.{allPlaces}
 use Rattle.model.proofs.words.sum.Statement.{statement}
 use Rattle.model.proofs.words.sum.Tie as tie
 
 abbrev Inv-loop : tie.InvT-loop
-Inv-loop w field places total₀ p₀ total p = p ≤ 16
+Inv-loop w field places total₀ p₀ total p = p ≤ allPlaces
 
 abbrev μ-loop : tie.MeasureT-loop
-μ-loop w field places total₀ p₀ total p = 16 - p
+μ-loop w field places total₀ p₀ total p = allPlaces - p
 
 loop-holds : tie.Need-loop-holds Inv-loop μ-loop
 loop-holds c = search needs

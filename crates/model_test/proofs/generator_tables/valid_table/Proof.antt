@@ -1,14 +1,15 @@
--- `model_test::generator_tables::valid_table` is safe and ends, after at most 16 turns. Assumes nothing.
+-- `model_test::generator_tables::valid_table` is safe and ends, after a turn for each place at most. Assumes nothing.
 use Prim.Native.Nat.{_≤_, _-_}
 use borrow.Author.Needs.{needs}
+use Rattle.model.specs.Sizes.{allPlaces}
 use Rattle.model_test.proofs.generator_tables.valid_table.Statement.{statement}
 use Rattle.model_test.proofs.generator_tables.valid_table.Tie as tie
 
 abbrev Inv-loop : tie.InvT-loop
-Inv-loop key w₀ d n p₀ w p = p ≤ 16
+Inv-loop key w₀ d n p₀ w p = p ≤ allPlaces
 
 abbrev μ-loop : tie.MeasureT-loop
-μ-loop key w₀ d n p₀ w p = 16 - p
+μ-loop key w₀ d n p₀ w p = allPlaces - p
 
 clear-requires : tie.Need-clear-requires Inv-loop μ-loop
 clear-requires c κs = search needs

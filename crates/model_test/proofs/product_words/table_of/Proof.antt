@@ -1,14 +1,15 @@
--- `model_test::product_words::table_of` is safe and ends, after at most 16 turns. Assumes nothing.
+-- `model_test::product_words::table_of` is safe and ends, after a turn for each place at most. Assumes nothing.
 use Prim.Native.Nat.{_≤_, _-_}
 use borrow.Author.Needs.{needs}
+use Rattle.arbiter.specs.Limits.{maxPlaces}
 use Rattle.model_test.proofs.product_words.table_of.Statement.{statement}
 use Rattle.model_test.proofs.product_words.table_of.Tie as tie
 
 abbrev Inv-loop : tie.InvT-loop
-Inv-loop w rows₀ p₀ rows p = p ≤ 16
+Inv-loop w rows₀ p₀ rows p = p ≤ maxPlaces
 
 abbrev μ-loop : tie.MeasureT-loop
-μ-loop w rows₀ p₀ rows p = 16 - p
+μ-loop w rows₀ p₀ rows p = maxPlaces - p
 
 loop-holds : tie.Need-loop-holds Inv-loop μ-loop
 loop-holds c = search needs

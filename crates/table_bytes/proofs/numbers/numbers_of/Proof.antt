@@ -1,13 +1,14 @@
 -- `table_bytes::numbers::numbers_of` meets its contract. The loop's invariant: D, N and the numbers of the first p rows stand in front
 -- of the zeros. Assumes nothing.
-use mathlib.Core.Path.{_≡_, refl, sym, _∙_}
+use mathlib.Core.Path.{_≡_, refl, _∙_}
 use Prim.Native.Nat.{_+_, _-_, _*_, _≤_}
 use native.Mathlib.Omega.{arith}
-use lib.ListN.{length, length-map, replicate}
+use lib.ListN.{length, replicate}
 use Rattle.lists.specs.Sums.{joined}
 use Rattle.lists.specs.Overwriting.{writtenOver}
 use Rattle.arbiter.specs.Limits.{maxPlaces}
 use Rattle.arbiter.proofs.Checks.{fair}
+use Rattle.arbiter.proofs.Shapes.{table-rows}
 use Rattle.table_bytes.proofs.Writings.{numbersTo, row-stored, rows-stored, within-fits}
 use Rattle.table_bytes.proofs.numbers.numbers_of.Statement.{statement}
 use Rattle.table_bytes.proofs.numbers.numbers_of.Tie as tie
@@ -20,7 +21,7 @@ abbrev μ-loop : tie.MeasureT-loop
 
 -- how many rows the table has
 rows : (c : tie.Start Inv-loop μ-loop) → length (c .args .t1 .requestors) ≡ maxPlaces
-rows c = sym (length-map (c .args .t1 .requestors) _) ∙ c .good .0 .1 .1 .1 .1 .0 .1 .0 .1
+rows c = table-rows (c .args .t1) (c .good .0)
 
 array-write-numbers : tie.Need-array-write-numbers Inv-loop μ-loop
 array-write-numbers c = omega arith

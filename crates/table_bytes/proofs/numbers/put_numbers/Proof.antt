@@ -1,21 +1,22 @@
--- `table_bytes::numbers::put_numbers` meets its contract. The loop's invariant, `Put`: the bytes of the first i numbers stand in front
+-- `table_bytes::numbers::put_numbers` meets its contract. The loop's invariant, `Written`: the bytes of the first i numbers stand in front
 -- of what the buffer held, up to `at`. Assumes nothing.
 use Prim.Native.Nat.{_-_}
 use native.Mathlib.Omega.{arith}
 use borrow.Author.Needs.{needs}
 use lib.ListN.{length}
-use Rattle.table_bytes.proofs.Writings.{counted-part, Put, put-none, put-length, put-inside, put-next, put-all}
+use Rattle.lists.proofs.Putting.{put-length, put-inside}
+use Rattle.table_bytes.proofs.Writings.{counted-part, Written, written-none, written-next, written-all}
 use Rattle.table_bytes.proofs.numbers.put_numbers.Statement.{statement}
 use Rattle.table_bytes.proofs.numbers.put_numbers.Tie as tie
 
 abbrev Inv-loop : tie.InvT-loop
-Inv-loop numbers buffer₀ at₀ i₀ buffer at i = Put numbers buffer₀ buffer at i
+Inv-loop numbers buffer₀ at₀ i₀ buffer at i = Written numbers buffer₀ buffer at i
 
 abbrev μ-loop : tie.MeasureT-loop
 μ-loop numbers buffer₀ at₀ i₀ buffer at i = length numbers - i
 
 loop-holds : tie.Need-loop-holds Inv-loop μ-loop
-loop-holds c = put-none _ _
+loop-holds c = written-none _ _
 
 mul-x : tie.Need-mul-x Inv-loop μ-loop
 mul-x c = omega arith
@@ -24,10 +25,10 @@ shared-slice-read-x : tie.Need-shared-slice-read-x Inv-loop μ-loop
 shared-slice-read-x c = omega arith
 
 sub-write-number : tie.Need-sub-write-number Inv-loop μ-loop
-sub-write-number c = put-inside (c .before .before .before .before .before .pre) (c .before .before .loop .inv)
+sub-write-number c = put-inside (c .before .before .loop .inv .put)
 
 part-write-number-start : tie.Need-part-write-number-start Inv-loop μ-loop
-part-write-number-start c = put-inside (c .before .before .before .before .before .pre) (c .before .before .loop .inv)
+part-write-number-start c = put-inside (c .before .before .loop .inv .put)
 
 part-write-number-end : tie.Need-part-write-number-end Inv-loop μ-loop
 part-write-number-end c = omega arith
@@ -39,7 +40,7 @@ write-number-requires c κs = search needs
 loop-again : tie.Need-loop-again Inv-loop μ-loop
 loop-again c =
     let turn = c .before .before .before .before .before in
-    put-next (turn .before .before .before .before .pre) (turn .before .loop .inv) (turn .loop-test .taken) _ _ (c .before .before .write-number .ensures)
+    written-next (turn .before .before .before .before .pre) (turn .before .loop .inv) (turn .loop-test .taken) _ _ (c .before .before .write-number .ensures)
 
 add-at : tie.Need-add-at Inv-loop μ-loop
 add-at c = omega (arith, counted-part (loop-again c .counted))
@@ -51,10 +52,10 @@ loop-less : tie.Need-loop-less Inv-loop μ-loop
 loop-less c = omega arith
 
 same-length : tie.Need-same-length Inv-loop μ-loop
-same-length c = put-length (c .before .before .before .before .pre) (c .before .loop .inv)
+same-length c = put-length (c .before .loop .inv .put)
 
 returns : tie.Need-returns Inv-loop μ-loop
-returns c = put-all (c .before .loop .inv) (c .loop-test .left)
+returns c = written-all (c .before .loop .inv) (c .loop-test .left)
 
 pub put-numbers-spec : {M : Type 1} → statement M
 put-numbers-spec =

@@ -3,12 +3,13 @@
 use mathlib.Core.Path.{_≡_, ap, sym, _∙_}
 use native.Mathlib.Omega.{arith}
 use borrow.Author.Needs.{needs}
-use lib.ListN.{length-map, length-take}
+use lib.ListN.{length-take}
 use Rattle.arbiter.specs.Limits.{maxPlaces}
 use Rattle.arbiter.specs.Refusals.{faultless, verdictOf}
 use Rattle.arbiter.specs.Table.{tableVerdict}
 use Rattle.arbiter.specs.Figures.{admissionVerdict}
 use Rattle.arbiter.proofs.Checks.{admitted}
+use Rattle.arbiter.proofs.Shapes.{table-rows}
 use Rattle.table_bytes.proofs.Writings.{Lent, lent, write-refused, write-short, write-whole}
 use Rattle.table_bytes.proofs.writer.write_table.Statement.{statement}
 use Rattle.table_bytes.proofs.writer.write_table.Tie as tie
@@ -24,7 +25,7 @@ passes c = admitted maxPlaces _ (ok c) .passes
 numbers : (c : tie.After-numbers-of) → Lent maxPlaces (c .before .before .before .before .before .args .t) (c .numbers-of .result)
 numbers c =
     let s = c .before .before .before .before .before in
-    lent maxPlaces _ _ _ (sym (length-map (s .args .t .requestors) _) ∙ s .good .0 .1 .1 .1 .1 .0 .1 .0 .1) (passes (c .before)) (c .numbers-of .ensures)
+    lent maxPlaces _ _ _ (table-rows (s .args .t) (s .good .0)) (passes (c .before)) (c .numbers-of .ensures)
 
 admit-requires : tie.Need-admit-requires
 admit-requires c κs = search needs

@@ -1,10 +1,10 @@
--- `listing::counts::play` meets its contract. By what the posts answer. Assumes nothing.
+-- `listing::playing::play` meets its contract. By what the posts answer. Assumes nothing.
 use mathlib.Core.Path.{ap}
 use borrow.Author.Needs.{needs}
 use Rattle.calls.specs.Calls.{postAnswerOf}
 use Rattle.listing.proofs.Counting.{played-slot, played-stop}
-use Rattle.listing.proofs.counts.play.Statement.{statement}
-use Rattle.listing.proofs.counts.play.Tie as tie
+use Rattle.listing.proofs.playing.play.Statement.{statement}
+use Rattle.listing.proofs.playing.play.Tie as tie
 
 post-counts-requires : tie.Need-post-counts-requires
 post-counts-requires c κs = search needs

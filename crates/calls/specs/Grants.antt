@@ -1,5 +1,5 @@
--- A grant read place by place: what a slot that granted g makes of the account of place p, as the code's loop goes (proofs/Updates
--- says that, place by place, this is `after` of the rule), and what the grant counts for a place.
+-- A grant as one place sees it: whether it names the place, what becomes of the place's account, and how many grants it counts for.
+-- The code's loop goes place by place; taken together that is `after` of the rule (proofs/Updates).
 use mathlib.Core.Bool.{Bool, false}
 use Prim.Native.Nat.{ℕ}
 use lib.Dec.{ltb, eqb}
@@ -20,8 +20,7 @@ accountAfter d g p r a = pick (names g p) (served d r a) (passed r a)
 
 -- 1 if the grant is to place p, 0 if not
 unfoldable pub toPlace : ℕ → Grant → ℕ
-toPlace p Nobody = 0
-toPlace p (Place i) = pick (eqb i p) 1 0
+toPlace p g = pick (names g p) 1 0
 
 -- 1 if the grant is to one of the first k places, 0 if not
 unfoldable pub toFirst : ℕ → Grant → ℕ

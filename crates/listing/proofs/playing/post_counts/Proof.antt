@@ -1,4 +1,4 @@
--- `listing::counts::post_counts` meets its contract. The loop's invariant: what is left to post comes to the same as all of it. Assumes nothing.
+-- `listing::playing::post_counts` meets its contract. The loop's invariant: what is left to post comes to the same as all of it. Assumes nothing.
 use mathlib.Core.Path.{ap}
 use Prim.Native.Nat.{_-_}
 use native.Mathlib.Omega.{arith}
@@ -7,8 +7,8 @@ use lib.ListN.{length}
 use Rattle.arbiter.specs.Limits.{maxPlaces}
 use Rattle.calls.specs.Calls.{postAnswerOf}
 use Rattle.listing.proofs.Counting.{Posting, posting-none, posting-next, posting-stop, posting-end}
-use Rattle.listing.proofs.counts.post_counts.Statement.{statement}
-use Rattle.listing.proofs.counts.post_counts.Tie as tie
+use Rattle.listing.proofs.playing.post_counts.Statement.{statement}
+use Rattle.listing.proofs.playing.post_counts.Tie as tie
 
 abbrev Inv-loop : tie.InvT-loop
 Inv-loop counts state₀ p₀ state p = Posting maxPlaces state₀ counts state p

@@ -1,0 +1,56 @@
+// A slot with its counts: they are posted from place 0 on, and then the slot is done.
+use arbiter::state::Arbiter;
+use arbiter::units::Transfers;
+use calls::post::PostAnswer;
+use calls::post::PostResult;
+use calls::post::post;
+use calls::slot::SlotAnswer;
+use calls::slot::SlotResult;
+use calls::slot::slot;
+ghost use mathlib.Core.Path.{_≡_};
+ghost use Rattle.arbiter.specs.Limits.{maxPlaces};
+ghost use Rattle.calls.specs.Calls.{postResultOf, slotResultOf};
+ghost use Rattle.listing.specs.Listing.{posted, played};
+
+// The counts are posted from place 0 on, until one is refused.
+fn post_counts(s: Arbiter, counts: &[u32]) -> PostResult
+    ensures { λ r. ⌜ postResultOf r ≡ posted maxPlaces s 0 (now (counts .entry)) ⌝ }
+{
+    let mut state = s;
+    let mut p: usize = 0;
+    while p < counts.len() {
+        let count = counts[p];
+        let done = post(state, p, Transfers(count));
+        let next = done.state;
+        let answer = done.answer;
+        match answer {
+            PostAnswer::Accepted => {
+                state = next;
+            }
+            PostAnswer::Refused(_) => {
+                return done;
+            }
+        }
+        p = p + 1;
+    }
+    PostResult {
+        state: state,
+        answer: PostAnswer::Accepted,
+    }
+}
+
+// The counts are posted, and then the slot is done.
+pub(crate) fn play(s: Arbiter, counts: &[u32]) -> SlotResult
+    ensures { λ r. ⌜ slotResultOf r ≡ played maxPlaces s (now (counts .entry)) ⌝ }
+{
+    let posted = post_counts(s, counts);
+    let ready = posted.state;
+    let answer = posted.answer;
+    match answer {
+        PostAnswer::Accepted => slot(ready),
+        PostAnswer::Refused(c) => SlotResult {
+            state: ready,
+            answer: SlotAnswer::Refused(c),
+        },
+    }
+}

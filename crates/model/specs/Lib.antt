@@ -1,0 +1,2 @@
+-- The model's sizes, by name, for its proofs.
+pub mod Sizes
