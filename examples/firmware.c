@@ -82,7 +82,7 @@ static void tell_handset(void)
     uint64_t answer[JUSTRAVE_FIGURES_ANSWER];
 
     if (!refused("figures", justrave_figures(state, JUSTRAVE_STATE_WORDS, HANDSET, 3, answer, JUSTRAVE_FIGURES_ANSWER))) {
-        printf("handset: the places above can hold it back for %llu slots, 3 transfers are done within %llu\n",
+        printf("handset: at most %llu slots in a row go to the places above, 3 transfers are done within %llu\n",
                (unsigned long long)answer[0], (unsigned long long)answer[1]);
     }
 }

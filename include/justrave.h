@@ -15,7 +15,8 @@
  * - memory that is lent for writing overlaps no other memory of the same call;
  * - while a call runs nobody else writes its memory, and nobody else reads what is lent to it for writing.
  *
- * Nothing else is asked. Any number, any bytes and any words may be handed in: every call has an answer.
+ * Nothing else is asked. Any number, any bytes and any words may be handed in: every call has an answer. But C cuts a number down to
+ * the type of its parameter before the call: a count of transfers has 32 bits, and a larger one arrives as another count.
  */
 #ifndef JUSTRAVE_H
 #define JUSTRAVE_H
@@ -51,18 +52,19 @@ extern "C" {
 /* The longest log, in bytes, and so the most slots of one run. */
 #define JUSTRAVE_MAX_LOG 65536
 
-/* Room for the bytes of any table: 3 and 1 for D and N, and 3, 4, 2, 5 for each of 16 places. */
-#define JUSTRAVE_TABLE_ROOM 228
+/* Room for the bytes of any table: at most 5 for each number, D, N and 4 for each of 16 places. */
+#define JUSTRAVE_TABLE_ROOM 330
 
 /* The highest slot number, two to the power 62: no slot is done at it. */
 #define JUSTRAVE_MAX_SLOT ((uint64_t)1 << 62)
 
 /*
- * An outcome, which every call but justrave_state_words returns. 0 is accepted. Any other is a refusal: the number of document 01
- * in its low 8 bits, and above them the place that the refusal names, plus 1, or 0 if it names none.
+ * An outcome, which every call but justrave_state_words returns. 0 is accepted. Any other is a refusal: its number, of document 01 or
+ * 255, in the low 8 bits, and above them the place that the refusal names, plus 1, or 0 if it names none.
  *
  * A refused call changes nothing: the state, the log, the buffer and the answer are what they were. Only a start that is refused
- * for its table or its slot number writes: it sets every word of the state to 0.
+ * for its table or its slot number writes: it sets every word of the state to 0, and every other call on such words is refused 23.
+ * Start into memory of its own where an old state is still wanted.
  */
 enum {
     JUSTRAVE_ACCEPTED = 0,
@@ -86,7 +88,7 @@ enum {
     /* caused by the state */
     JUSTRAVE_BACKLOG = 21,     /* the post would carry the backlog above 65,535 */
     JUSTRAVE_SLOT_LIMIT = 22,  /* the slot number stands at its limit; for a run, it would pass it */
-    JUSTRAVE_BROKEN_STATE = 23, /* a word fits no field, or the state breaks a rule: no accepted start and calls lead to it */
+    JUSTRAVE_BROKEN_STATE = 23, /* a word does not fit its field, or the state breaks a rule: no accepted start and calls lead to it */
 
     /* of the boundary itself, caused by the input and tested before all else: a lent state or answer has not the right length */
     JUSTRAVE_LENGTH = 255
@@ -102,7 +104,10 @@ enum {
 /* Whether a refusal was caused by the state (21 to 29) or else by the input. */
 #define JUSTRAVE_CAUSED_BY_STATE(outcome) ((unsigned)JUSTRAVE_NUMBER(outcome) - 21u <= 8u)
 
-/* Of the answer of an accepted slot: its stamp, whether a place was granted, and which. */
+/*
+ * Of the answer of an accepted slot: its stamp, whether a place was granted, and which. JUSTRAVE_GRANTED means something only if
+ * JUSTRAVE_IS_GRANTED holds.
+ */
 #define JUSTRAVE_STAMP(answer) ((answer)[0])
 #define JUSTRAVE_IS_GRANTED(answer) ((answer)[1] != 0)
 #define JUSTRAVE_GRANTED(answer) ((size_t)((answer)[1] - 1))
@@ -133,8 +138,8 @@ uint64_t justrave_slot(uint64_t *state, size_t state_length, uint64_t *answer, s
 uint64_t justrave_run(uint64_t *state, size_t state_length, uint8_t *log, size_t log_length);
 
 /*
- * Answers a place's wait in slots, rounded up, for which the places above can hold it back, and its finish figure: `transfers` of
- * them, 1 to 255, that wait together are all granted within so many slots. Refused 255, 23, 11, 5.
+ * Answers two numbers of slots. The wait: at most so many slots in a row go to the places above. The finish figure: where at least
+ * `transfers`, 1 to 255, wait at the place, so many are granted to it within so many slots. Refused 255, 23, 11, 5.
  */
 uint64_t justrave_figures(const uint64_t *state, size_t state_length, size_t place, uint32_t transfers, uint64_t *answer,
                           size_t answer_length);
@@ -148,7 +153,7 @@ uint64_t justrave_lead(const uint64_t *state, size_t state_length, size_t place,
 
 /*
  * Writes the bytes of the state's table to the buffer's start, and leaves the rest of the buffer. The answer is how many bytes they
- * are; JUSTRAVE_TABLE_ROOM is always enough. Refused 255, 23, 7, 14.
+ * are; JUSTRAVE_TABLE_ROOM is always enough. Refused 255, 23, 7 (only in a state that no start made), 14.
  */
 uint64_t justrave_write(const uint64_t *state, size_t state_length, uint8_t *buffer, size_t buffer_length, uint64_t *answer,
                         size_t answer_length);

@@ -31,12 +31,12 @@ pub enum SlotAnswer {
     Idle(Slots),
 }
 
-/// How long others can hold a place back, and by when so many transfers are done.
+/// What the table promises a place, in slots.
 #[derive(Clone, Copy, Debug, PartialEq, Eq, Hash)]
 pub struct Figures {
-    /// The wait, rounded up to whole slots: how long the places above can hold this one back.
+    /// The wait, rounded up to whole slots: at most so many slots in a row go to the places above.
     pub wait: Slots,
-    /// The slots within which the transfers that were asked about are all granted.
+    /// The finish figure: where at least as many transfers wait as were asked about, so many are granted within these slots.
     pub finish: Slots,
 }
 
@@ -49,8 +49,8 @@ impl Arbiter {
     pub const MAX_SLOT: Slots = Slots(1 << 62);
     /// What a log holds for an idle slot.
     pub const LOG_IDLE: u8 = 255;
-    /// Room for the bytes of any table: 3 and 1 for D and N, and 3, 4, 2, 5 for each of 16 places.
-    pub const TABLE_ROOM: usize = 228;
+    /// Room for the bytes of any table: at most 5 for each number, D, N and 4 for each of 16 places.
+    pub const TABLE_ROOM: usize = 5 * (2 + 4 * 16);
 
     /// Reads a table's bytes and stands at slot number `first`: every credit is its burst, and nothing waits.
     ///
@@ -145,8 +145,8 @@ impl Arbiter {
         Refusal::check(outcome)
     }
 
-    /// How long the places above can hold a place back, and within how many slots `transfers` of its own, waiting together, are all
-    /// granted.
+    /// How many slots in a row can go to the places above at most, and within how many slots `transfers` are granted to the place
+    /// once at least so many wait there.
     ///
     /// # Errors
     ///

@@ -16,7 +16,7 @@ ghost use Rattle.arbiter.specs.Refusals.{verdictOf};
 ghost use Rattle.arbiter.specs.State.{placeVerdict};
 ghost use Rattle.arbiter.specs.Asked.{figures, figuresAnswerOf};
 
-// In slots: how long the places above can hold a place back, and within how many its transfers are all granted.
+// In slots: how many in a row can go to the places above at most, and within how many its transfers are all granted.
 pub struct PlaceFigures {
     pub wait: Slots,
     pub finish: Slots,

@@ -74,7 +74,7 @@ pub enum Field {
 }
 
 // A table with x for N, where that is 0, 1, 16 or 17: as many of its rows are not 0 as there are. Sixteen share D=16 evenly;
-// the places above can hold the last of them back for 15 * 16 slots, and a transfer takes it 16 more.
+// at most 15 * 16 slots in a row go to the places above the last of them, and a transfer takes it 16 more.
 pub fn of_count(x: usize) -> Table {
     let shared = row(1, 16, 1, 256);
     if x == 0 {

@@ -32,7 +32,7 @@ use Rattle.boundary.specs.Fits.{maxField, wordsFit, lentCode}
 use Rattle.boundary.specs.Places.{Below}
 use Rattle.boundary.proofs.Items.{length-places}
 use Rattle.boundary.proofs.Fitting.{sound-fits}
-use Rattle.boundary.proofs.RoundTrip.{state-written-back}
+use Rattle.boundary.proofs.RoundTrip.{words-shaped, state-written-back}
 
 -- ---- a refusal as a code
 
@@ -51,13 +51,6 @@ module _ (r q : Refusal) (e : r ≡ q) where
 -- ---- the words of a state that was read
 
 -- it has arrays of the largest N
-pub read-shaped : (limit : ℕ) (words : List ℕ) → Shaped limit (wordsState limit words)
-unfolding wordsState
-read-shaped limit words = record {
-  rows = length-places (λ p. rowFrom words (rowStart p)) 0 limit;
-  accounts = length-places (λ p. accountFrom words (accountStart limit p)) 0 limit;
-}
-
 pub same-words : (limit : ℕ) (words : List ℕ) (s : Arbiter) → rightLength limit words ≡ true → s ≡ wordsState limit words → words ≡ stateWords s
 same-words limit words s long e = sym (ap stateWords e ∙ state-written-back limit words long)
 
@@ -68,7 +61,7 @@ wide-unsound : (limit : ℕ) (words : List ℕ) → limit * maxBurst ≤ maxFiel
     → sound limit (wordsState limit words) ≡ false
 unfolding wordsFit
 wide-unsound limit words few long wide = cases (sound limit (wordsState limit words))
-    (λ e. true-false (sym (true-and _ _ long (sound-fits limit (wordsState limit words) (read-shaped limit words) few e)) ∙ wide))
+    (λ e. true-false (sym (true-and _ _ long (sound-fits limit (wordsState limit words) (words-shaped limit words) few e)) ∙ wide))
     (λ e. e)
 
 module _ (limit : ℕ) (words : List ℕ) (fits : Bool) (code : ℕ) (e : code ≡ lentCode limit words fits) where
@@ -234,7 +227,7 @@ pub granted-small : (limit : ℕ) (words : List ℕ) (s : Arbiter) → limit ≤
 unfolding called
 granted-small limit words s few f d g stamp p a =
     let by = granted-by s (gate (refusal 23) (sound limit s) (ruleVerdict s slot)) stamp p (ap (λ x. x .answer) (sym g) ∙ a) in
-    let v = sound-open limit s (rw f (read-shaped limit words)) (gate-open (refusal 23) (sound limit s) (ruleVerdict s slot) (by .0)) in
+    let v = sound-open limit s (rw f (words-shaped limit words)) (gate-open (refusal 23) (sound limit s) (ruleVerdict s slot) (by .0)) in
     byte-fits s (Place p) limit v few (sym (by .1))
 
 -- ---- run

@@ -6,20 +6,21 @@ use Prim.Native.Nat.{ℕ, zero, suc, _+_, _*_, _≤_}
 use native.Mathlib.Omega.{arith}
 use borrow.Author.Tests.{eq-eqb}
 use lib.Dec.{eqb}
+use lib.IntN.{ℤ}
 use lib.ListN.{length, replicate, length-replicate, length-map, length-set, replicate-append-replicate}
 use Rattle.lists.specs.Choices.{pick}
 use Rattle.lists.specs.Sums.{joined}
 use Rattle.lists.specs.Overwriting.{writtenOver}
 use Rattle.lists.specs.Runs.{Result, end, answers}
-use Rattle.lists.proofs.Tests.{cases, and-true, true-and}
+use Rattle.lists.proofs.Tests.{cases, true-false, and-true, true-and}
 use Rattle.lists.proofs.Overwriting.{length-over}
 use Rattle.arbiter.specs.declared.refusals.Refusal.{Refusal}
 use Rattle.arbiter.specs.declared.state.Arbiter.{Arbiter}
 use Rattle.arbiter.specs.declared.table.Table.{Table}
-use Rattle.arbiter.specs.Refusals.{Verdict, faultless, fault, refusal, gate, resolve}
+use Rattle.arbiter.specs.Refusals.{Verdict, faultless, fault, refusal, gate, then, resolve}
 use Rattle.arbiter.specs.Answers.{Answer, accepted, granted, idle, refused, unless}
 use Rattle.arbiter.specs.Table.{noRequestor, tableOf, denominatorBounds, countBounds, requestorsOf}
-use Rattle.arbiter.specs.State.{noAccount, sound, Shaped}
+use Rattle.arbiter.specs.State.{noAccount, sound, Shaped, placeVerdict}
 use Rattle.arbiter.specs.Start.{fresh, opening, noState, startVerdict, start}
 use Rattle.arbiter.specs.Asked as asked
 use Rattle.arbiter.proofs.Checks.{held-open}
@@ -28,15 +29,17 @@ use Rattle.table_bytes.specs.Reading.{Read, read, stop, next, fieldRead, rowsRe
 use Rattle.table_bytes.specs.Writing as writing
 use Rattle.table_bytes.proofs.Accepted.{next-open, read-same, field-open, rows-open}
 use Rattle.calls.specs.Calls.{Call, post, slot, grantOf, advanced, withPost, done, ruleVerdict, outcome, called}
-use Rattle.calls.specs.Log.{run}
+use Rattle.calls.specs.Log.{Outcome, run}
 use Rattle.calls.proofs.Slots.{after-length}
+use Rattle.calls.proofs.Verdicts.{called-unsound}
+use Rattle.calls.proofs.Logs.{run-unsound}
 use Rattle.boundary.specs.Words.{rowWords, accountWords, stateWords, wordCount, wordsState, rightLength}
-use Rattle.boundary.specs.Boundary.{refusalCode, answerCode, wrongLength, onState, stated, begun, posted, started, slotWords, slotStated, slotted, runStated, ran, figuresTold, figured, leadTold, led, Wrote, writeTold, wrote}
+use Rattle.boundary.specs.Boundary.{refusalCode, answerCode, wrongLength, onState, stated, begun, posted, started, slotWords, slotStated, slotted, runStated, ran, figuresTold, figured, leadTold, led, Wrote, writeCode, writeTold, wrote}
 use Rattle.boundary.specs.Places.{Told}
-use Rattle.boundary.specs.Claims.{Post-by-value, Slot-by-value, Run-by-value, Figures-by-value, Lead-by-value, Write-by-value, lentCall, heard, In-a-row, Start-shaped, Refused, Post-refused, Slot-refused, Run-refused, Figures-refused, Lead-refused, Write-refused, Start-refused}
+use Rattle.boundary.specs.Claims.{Post-by-value, Slot-by-value, Run-by-value, Figures-by-value, Lead-by-value, Write-by-value, Lent, lentCall, lastTold, In-a-row, Exactly-255, Lengths, Wrong-length, Broken, Broken-words, Start-shaped, Refused, Post-refused, Slot-refused, Run-refused, Figures-refused, Lead-refused, Write-refused, Start-refused}
 use Rattle.boundary.proofs.RoundTrip.{words-read-back}
 use Rattle.boundary.proofs.Boundary.{same-words, called-refused, ran-refused}
-use Rattle.boundary.proofs.Places.{start-names-below}
+use Rattle.boundary.proofs.Places.{code-apart, start-names-below, calls-name-below, runs-name-below, leads-name-below, figures-name-below, write-names-below}
 
 -- ---- one call
 
@@ -92,29 +95,33 @@ unfolding done
 post-answer faultless s p count old = refl
 post-answer (fault r) s p count old = refl
 
-module _ (limit : ℕ) (old : List ℕ) (two : length old ≡ 2) where
+-- and a slot leaves it two words long
+answer-long : (old : List ℕ) (a : Answer) → length old ≡ 2 → length (slotWords old a) ≡ 2
+answer-long old accepted two = two
+answer-long old (granted stamp p) two = refl
+answer-long old (idle stamp) two = refl
+answer-long old (refused r) two = two
+
+module _ (limit : ℕ) where
   call-shaped : (s : Arbiter) (c : Call) → Shaped limit s → Shaped limit (called limit s c .state)
   unfolding called
   call-shaped s c v = outcome-shaped limit (gate (refusal 23) (sound limit s) (ruleVerdict s c)) s c v
 
-  one-call : (s : Arbiter) (c : Call) → Shaped limit s
-      → lentCall limit old (stateWords s) c ≡ record { state = stateWords (called limit s c .state); answer = heard old (called limit s c .answer) }
+  one-call : (s : Arbiter) (c : Call) (old : List ℕ) → Shaped limit s → length old ≡ 2
+      → lentCall limit (record { words = stateWords s; answer = old }) c
+      ≡ record { state = record { words = stateWords (called limit s c .state); answer = slotWords old (called limit s c .answer) }; answer = answerCode (called limit s c .answer) }
   unfolding called
-  one-call s (post p count) v =
+  one-call s (post p count) old v two =
       rw (post-by-value limit s p count v, post-answer (gate (refusal 23) (sound limit s) (ruleVerdict s (post p count))) s p count old)
-  one-call s slot v = rw (slot-by-value limit s old v two)
-
-  row : (s : Arbiter) (calls : List Call) → Shaped limit s
-      → (end (lentCall limit old) (stateWords s) calls ≡ stateWords (end (called limit) s calls))
-      × (answers (lentCall limit old) (stateWords s) calls ≡ map (heard old) (answers (called limit) s calls))
-  unfolding end answers
-  row s [] v = (refl, refl)
-  row s (c ∷ calls) v =
-      let more = row (called limit s c .state) calls (call-shaped s c v) in
-      (rw (one-call s c v) (more .0), rw (one-call s c v) (ap (λ l. heard old (called limit s c .answer) ∷ l) (more .1)))
+  one-call s slot old v two = rw (slot-by-value limit s old v two)
 
 pub in-a-row : In-a-row
-in-a-row limit s old calls v two = row limit old two s calls v
+unfolding end answers lastTold
+in-a-row limit s old [] v two = (refl, refl)
+in-a-row limit s old (c ∷ calls) v two =
+    let a = called limit s c .answer in
+    let more = in-a-row limit (called limit s c .state) (slotWords old a) calls (call-shaped limit s c v) (answer-long old a two) in
+    (rw (one-call limit s c old v two) (more .0), rw (one-call limit s c old v two) (ap (λ l. answerCode a ∷ l) (more .1)))
 
 -- ---- the state that a start leaves
 
@@ -319,11 +326,6 @@ begun-none limit t first r e = by (t .answer) e
     by (idle stamp) f = started-none limit (t .table) first r f
     by (refused q) f = refl
 
--- no refusal's outcome is 255
-not-length : {X : Type 0} (limit : ℕ) (r : Refusal) → Told limit r → refusalCode r ≡ wrongLength → X
-unfolding refusalCode
-not-length limit r t e = absurd (omega arith)
-
 pub start-refused : Start-refused
 unfolding started
 start-refused limit bytes first words = cases (rightLength limit words)
@@ -340,4 +342,115 @@ start-refused limit bytes first words = cases (rightLength limit words)
     by-code accepted e f = absurd (omega arith)
     by-code (granted stamp p) e f = absurd (omega arith)
     by-code (idle stamp) e f = absurd (omega arith)
-    by-code (refused r) e f = not-length limit r (start-names-below limit bytes first r e) f
+    by-code (refused r) e f = absurd (code-apart limit r (start-names-below limit bytes first r e) .1 f)
+
+-- ---- 255 and 23
+
+module _ {X : Type 0} (limit : ℕ) (words : List ℕ) (fits : Bool) (down : X) (call : Arbiter → X) (out : X → ℕ) where
+  exactly : out down ≡ wrongLength → (out (call (wordsState limit words)) ≡ wrongLength → ⊥)
+      → Exactly-255 (rightLength limit words && fits) (out (onState limit words fits down call))
+  unfolding onState
+  exactly e never = cases (rightLength limit words && fits)
+      (λ q. rw q ((λ f. true-false f), λ f. absurd (never f)))
+      (λ q. rw q ((λ f. e), λ f. refl))
+
+-- the outcome of an answer whose refusals are document 01's
+code-never : (limit : ℕ) (a : Answer) → ((r : Refusal) → a ≡ refused r → Told limit r) → answerCode a ≡ wrongLength → ⊥
+code-never limit accepted t e = absurd (omega arith)
+code-never limit (granted stamp p) t e = absurd (omega arith)
+code-never limit (idle stamp) t e = absurd (omega arith)
+code-never limit (refused r) t e = code-apart limit r (t r refl) .1 e
+
+figures-never : (limit : ℕ) (old : List ℕ) (a : asked.FiguresAnswer) → ((r : Refusal) → a ≡ asked.refused r → Told limit r) → figuresTold old a .outcome ≡ wrongLength → ⊥
+figures-never limit old (asked.figured wait finish) t e = absurd (omega arith)
+figures-never limit old (asked.refused r) t e = code-apart limit r (t r refl) .1 e
+
+lead-never : (limit : ℕ) (old : List ℤ) (a : leads.LeadAnswer) → ((r : Refusal) → a ≡ leads.refused r → Told limit r) → leadTold old a .outcome ≡ wrongLength → ⊥
+lead-never limit old (leads.lead x) t e = absurd (omega arith)
+lead-never limit old (leads.refused r) t e = code-apart limit r (t r refl) .1 e
+
+write-never : (limit : ℕ) (a : writing.WriteAnswer) → ((r : Refusal) → a ≡ writing.refused r → Told limit r) → writeCode a ≡ wrongLength → ⊥
+write-never limit (writing.wrote bytes) t e = absurd (omega arith)
+write-never limit (writing.refused r) t e = code-apart limit r (t r refl) .1 e
+
+module _ (limit : ℕ) (words : List ℕ) where
+  abbrev here : Arbiter
+  here = wordsState limit words
+
+  start-length : (bytes : List ℕ) (first : ℕ) → Exactly-255 (rightLength limit words) (started limit bytes first words .outcome)
+  unfolding started
+  start-length bytes first = cases (rightLength limit words)
+      (λ q. rw q ((λ f. true-false f), λ f. absurd (code-never limit (begun limit (readTable limit bytes) first .answer) (start-names-below limit bytes first) f)))
+      (λ q. rw q ((λ f. refl), λ f. refl))
+
+  call-length : (c : Call) → answerCode (called limit here c .answer) ≡ wrongLength → ⊥
+  call-length c = code-never limit (called limit here c .answer) (calls-name-below limit here c)
+
+  written-length : (buffer old : List ℕ)
+      → pick (sound limit here) (writeTold old (writing.writeTable limit (here .table) buffer)) (record { buffer = buffer; answer = old; outcome = refusalCode (refusal 23) }) .outcome ≡ wrongLength
+      → ⊥
+  unfolding refusalCode
+  written-length buffer old = cases (sound limit here)
+      (λ q. rw q (write-never limit (writing.writeTable limit (here .table) buffer .answer) (write-names-below limit (here .table) buffer)))
+      (λ q. rw q (λ f. absurd (omega arith)))
+
+  lengths : Lengths limit words
+  unfolding posted slotted ran figured led wrote
+  lengths = record {
+    start = start-length;
+    post = λ p count. exactly limit words true _ (λ s. stated (called limit s (post p count))) (λ x. x .outcome) refl (call-length (post p count));
+    slot = λ old. exactly limit words (eqb (length old) 2) _ (λ s. slotStated old (called limit s slot)) (λ x. x .outcome) refl (call-length slot);
+    run = λ log. exactly limit words true _ (λ s. runStated (run limit s log)) (λ x. x .outcome) refl (code-never limit (run limit here log .answer) (runs-name-below limit here log));
+    figures = λ p j old. exactly limit words (eqb (length old) 2) _ (λ s. figuresTold old (asked.figures limit s p j)) (λ x. x .outcome) refl (figures-never limit old (asked.figures limit here p j) (figures-name-below limit here p j));
+    lead = λ p log old. exactly limit words (eqb (length old) 1) _ (λ s. leadTold old (leads.leadAsked limit s p log)) (λ x. x .outcome) refl (lead-never limit old (leads.leadAsked limit here p log) (leads-name-below limit here p log));
+    write = λ buffer old. exactly limit words (eqb (length old) 1) _ _ (λ (x : Wrote). x .outcome) refl (written-length buffer old);
+  }
+
+pub wrong-length : Wrong-length
+wrong-length limit words = lengths limit words
+
+-- the call on the state that the words are
+module _ {X : Type 0} (limit : ℕ) (words : List ℕ) (fits : Bool) (down : X) (call : Arbiter → X) where
+  on-call : rightLength limit words ≡ true → fits ≡ true → onState limit words fits down call ≡ call (wordsState limit words)
+  unfolding onState
+  on-call long f = rw (true-and _ _ long f)
+
+module _ (limit : ℕ) (words : List ℕ) (long : rightLength limit words ≡ true) (broken : sound limit (wordsState limit words) ≡ false) where
+  abbrev held : Arbiter
+  held = wordsState limit words
+
+  code-23 : refusalCode (refusal 23) ≡ 23
+  unfolding refusalCode
+  code-23 = refl
+
+  call-23 : (c : Call) → answerCode (called limit held c .answer) ≡ 23
+  call-23 c = ap (λ (r : Result Arbiter Answer). answerCode (r .answer)) (called-unsound limit held c broken) ∙ code-23
+
+  place-23 : (p : ℕ) → placeVerdict limit held p ≡ fault (refusal 23)
+  unfolding placeVerdict gate
+  place-23 p = rw broken
+
+  figures-23 : (p j : ℕ) → asked.figures limit held p j ≡ asked.refused (refusal 23)
+  unfolding asked.figures asked.figuresVerdict then
+  figures-23 p j = rw (place-23 p)
+
+  lead-23 : (p : ℕ) (log : List ℕ) → leads.leadAsked limit held p log ≡ leads.refused (refusal 23)
+  unfolding leads.leadAsked leads.leadVerdict then
+  lead-23 p log = rw (place-23 p)
+
+  all-23 : Broken limit words
+  unfolding posted slotted ran figured led wrote
+  all-23 = record {
+    post = λ p count. ap (λ x. x .outcome) (on-call limit words true _ (λ s. stated (called limit s (post p count))) long refl) ∙ call-23 (post p count);
+    slot = λ old two. ap (λ x. x .outcome) (on-call limit words (eqb (length old) 2) _ (λ s. slotStated old (called limit s slot)) long (eq-eqb (length old) 2 two)) ∙ call-23 slot;
+    run = λ log. ap (λ x. x .outcome) (on-call limit words true _ (λ s. runStated (run limit s log)) long refl)
+        ∙ ap (λ (r : Outcome). answerCode (r .answer)) (sym (run-unsound limit held log held (refused (refusal 23)) broken refl refl)) ∙ code-23;
+    figures = λ p j old two. ap (λ x. x .outcome) (on-call limit words (eqb (length old) 2) _ (λ s. figuresTold old (asked.figures limit s p j)) long (eq-eqb (length old) 2 two))
+        ∙ ap (λ a. figuresTold old a .outcome) (figures-23 p j) ∙ code-23;
+    lead = λ p log old one. ap (λ x. x .outcome) (on-call limit words (eqb (length old) 1) _ (λ s. leadTold old (leads.leadAsked limit s p log)) long (eq-eqb (length old) 1 one))
+        ∙ ap (λ a. leadTold old a .outcome) (lead-23 p log) ∙ code-23;
+    write = λ buffer old one. ap (λ (x : Wrote). x .outcome) (on-call limit words (eqb (length old) 1) _ _ long (eq-eqb (length old) 1 one)) ∙ rw broken code-23;
+  }
+
+pub broken-words : Broken-words
+broken-words limit words long broken = all-23 limit words long broken

@@ -11,16 +11,18 @@ use Rattle.lists.specs.Sums.{total, every}
 use Rattle.lists.specs.Choices.{inRange}
 use Rattle.lists.specs.Overwriting.{writtenOver}
 use Rattle.lists.specs.Runs.{Result}
-use Rattle.lists.proofs.Tests.{in-range-true}
+use Rattle.lists.proofs.Tests.{cases, in-range-true}
 use Rattle.groups.specs.declared.reading.Reading as number
 use Rattle.groups.specs.declared.reading.Reading.the-variants.{Number, Ended, Malformed}
 use Rattle.groups.specs.Groups.{numberOf}
+use Rattle.arbiter.specs.declared.refusals.Named.{Named}
+use Rattle.arbiter.specs.declared.refusals.Named.the-variants as named
 use Rattle.arbiter.specs.declared.refusals.Refusal.{Refusal}
 use Rattle.arbiter.specs.declared.state.Arbiter.{Arbiter}
 use Rattle.arbiter.specs.declared.table.Requestor.{Requestor}
 use Rattle.arbiter.specs.declared.table.Table.{Table}
 use Rattle.arbiter.specs.Limits.{maxBacklog, maxSlot, maxInput}
-use Rattle.arbiter.specs.Refusals.{Verdict, faultless, fault, refusal, refusalAt, gate, then, resolve}
+use Rattle.arbiter.specs.Refusals.{originOf, Verdict, faultless, fault, refusal, refusalAt, gate, then, resolve}
 use Rattle.arbiter.specs.Answers.{Answer, accepted, granted, idle, refused, unless}
 use Rattle.arbiter.specs.Table.{rate, requestorClear, requestorsOf, tableOf, Bounds, denominatorBounds, countBounds, rateBounds, burstBounds, needBounds, withinBounds, heldTo, rowVerdict, eachPlace, tailVerdict, rateSumVerdict, tableVerdict}
 use Rattle.arbiter.specs.Figures.{finish, finishVerdict, finishesVerdict, admissionVerdict}
@@ -38,16 +40,43 @@ use Rattle.calls.specs.declared.slot.Grant.the-variants.{Nobody, Place}
 use Rattle.calls.specs.Calls.{Call, post, slot, grantOf, slotAnswer, done, ruleVerdict, outcome, called}
 use Rattle.calls.specs.Log.{Outcome, slotsState, slotsLog, slotsVerdict, runVerdict, run}
 use Rattle.table_bytes.proofs.Accepted.{stop-read, next-open, read-same, field-open}
-use Rattle.boundary.specs.Boundary.{begun}
-use Rattle.boundary.specs.Places.{Told, Start-names-below, Calls-name-below, Runs-name-below, Leads-name-below, Figures-name-below, Write-names-below}
+use Rattle.boundary.specs.Boundary.{placeCode, refusalCode, begun}
+use Rattle.boundary.specs.Places.{known, Told, Code-tells, Code-apart, Start-names-below, Calls-name-below, Runs-name-below, Leads-name-below, Figures-name-below, Write-names-below}
 
 -- ---- refusals by their number
 
-plain : (limit n : ℕ) → inRange 1 23 n ≡ true → Told limit (refusal n)
-plain limit n e = record { least = in-range-true 1 23 n e .0; most = in-range-true 1 23 n e .1; place = tt }
+plain : (limit n : ℕ) → known n ≡ true → Told limit (refusal n)
+plain limit n e = record { number = e; origin = refl; place = tt }
 
-placed : (limit n p : ℕ) → inRange 1 23 n ≡ true → p < limit → Told limit (refusalAt n p)
-placed limit n p e h = record { least = in-range-true 1 23 n e .0; most = in-range-true 1 23 n e .1; place = h }
+placed : (limit n p : ℕ) → known n ≡ true → p < limit → Told limit (refusalAt n p)
+placed limit n p e h = record { number = e; origin = refl; place = h }
+
+known-range : (n : ℕ) → known n ≡ true → (1 ≤ n) × (n ≤ 23)
+known-range n e = cases (inRange 1 14 n)
+    (λ low. let l = in-range-true 1 14 n low in (l .0, omega (arith, l .1)))
+    (λ high. let h = in-range-true 21 23 n (rw high at e) in (omega (arith, h .0), h .1))
+
+place-same : (x y : Named) → placeCode x ≡ placeCode y → x ≡ y
+place-same named.Nowhere named.Nowhere e = refl
+place-same named.Nowhere (named.Place p) e = absurd (omega arith)
+place-same (named.Place p) named.Nowhere e = absurd (omega arith)
+place-same (named.Place p) (named.Place q) e = let same : p ≡ q = omega arith in ap named.Place same
+
+pub code-tells : Code-tells
+unfolding refusalCode
+code-tells limit r q t u e =
+    let a = known-range (r .number) (t .number) in
+    let b = known-range (q .number) (u .number) in
+    let number : r .number ≡ q .number = omega (arith, a, b, e) in
+    let place = place-same (r .place) (q .place) (omega (arith, a, b, e)) in
+    same-refusal r q number place (t .origin ∙ ap originOf number ∙ sym (u .origin))
+  where
+    same-refusal : (r q : Refusal) → r .number ≡ q .number → r .place ≡ q .place → r .origin ≡ q .origin → r ≡ q
+    same-refusal r q f g h = rw (f, g, h)
+
+pub code-apart : Code-apart
+unfolding refusalCode
+code-apart limit r t = let a = known-range (r .number) (t .number) in ((λ e. absurd (omega (arith, a))), (λ e. absurd (omega (arith, a))))
 
 -- ---- along checks
 

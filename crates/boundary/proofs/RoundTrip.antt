@@ -8,9 +8,9 @@ use lib.ListN.{length, getD, drop, drop-of-length-le}
 use lib.Seq.{drop-cons}
 use Rattle.lists.specs.Sums.{joined}
 use Rattle.arbiter.specs.declared.state.Arbiter.{Arbiter}
-use Rattle.boundary.specs.Words.{rowWords, accountWords, headWords, stateWords, accountStart, wordCount, wordsRows, wordsAccounts, wordsState}
-use Rattle.boundary.specs.RoundTrip.{Words-read-back, State-written-back}
-use Rattle.boundary.proofs.Items.{written-read, read-written}
+use Rattle.boundary.specs.Words.{rowWords, accountWords, headWords, stateWords, rowStart, accountStart, wordCount, rowFrom, accountFrom, wordsRows, wordsAccounts, wordsState}
+use Rattle.boundary.specs.RoundTrip.{Words-read-back, Words-shaped, State-written-back}
+use Rattle.boundary.proofs.Items.{length-places, written-read, read-written}
 use Rattle.boundary.proofs.Words.{rows, accounts, length-rows, length-state}
 
 -- ---- from a state
@@ -53,6 +53,13 @@ written-back limit words long =
     let head : words ≡ getD words 0 0 ∷ getD words 1 0 ∷ getD words 2 0 ∷ drop 3 words =
     drop-cons words 0 0 (omega arith) ∙ ap (λ l. getD words 0 0 ∷ l) (drop-cons words 1 0 (omega arith) ∙ ap (λ l. getD words 1 0 ∷ l) (drop-cons words 2 0 (omega arith))) in
     rw (accounts-stand, same) (append-assoc (headWords (wordsState limit words)) r (drop (3 + 4 * limit) words) ∙ ap (λ l. headWords (wordsState limit words) ++ l) rows-stand ∙ sym head)
+
+pub words-shaped : Words-shaped
+unfolding wordsState
+words-shaped limit words = record {
+  rows = length-places (λ p. rowFrom words (rowStart p)) 0 limit;
+  accounts = length-places (λ p. accountFrom words (accountStart limit p)) 0 limit;
+}
 
 pub state-written-back : State-written-back
 state-written-back limit words e = written-back limit words (eqb-true (length words) (wordCount limit) e)

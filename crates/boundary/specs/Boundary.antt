@@ -1,5 +1,5 @@
 -- What each call for firmware does to the memory that is lent to it, and its outcome, one number. Document 01's refusals keep their
--- numbers; the boundary adds only 255, for lent memory of a wrong length, ahead of all else. `limit` is the largest N throughout.
+-- numbers; the boundary adds only 255, for a lent state or answer of a wrong length, ahead of all else. `limit` is the largest N throughout.
 use mathlib.Core.Bool.{Bool, true, _&&_}
 use mathlib.Core.List.{List, [], _∷_}
 use Prim.Native.Nat.{ℕ, _+_, _*_}
@@ -45,8 +45,8 @@ answerCode (refused r) = refusalCode r
 abbrev pub wrongLength : ℕ
 wrongLength = 255
 
--- A call on the state that the words are, or what comes of lent memory of a wrong length. A word that its field cannot hold is no case
--- of its own: the call refuses such a state with 23 (Fits).
+-- A call on the state that the words are, or what comes of a lent state or answer of a wrong length. A word that its field cannot hold is no case
+-- of its own: the call refuses such a state with 23 (Claims.Broken-words; Fits).
 unfoldable pub onState : {X : Type 0} → ℕ → (words : List ℕ) → (answerFits : Bool) → (turned-down : X) → (Arbiter → X) → X
 onState limit words answerFits turned-down call = pick (rightLength limit words && answerFits) (call (wordsState limit words)) turned-down
 

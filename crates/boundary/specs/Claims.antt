@@ -1,10 +1,11 @@
 -- What holds of the calls on lent words beyond each one's own definition. On a state's words they are the calls by value, one by one and
--- in a row. An outcome other than 0 says that nothing was done to what was lent; a refused start alone clears the words. For any largest N
--- and for any lent memory.
+-- in a row, and any words of the right length are a state's (RoundTrip). 255 tells a wrong length and 23 a state that breaks a rule. An
+-- outcome other than 0 says that nothing was done to what was lent; a refused start alone clears the words. For any largest N.
 use mathlib.Core.Path.{_≡_}
-use mathlib.Core.Bool.{true}
-use mathlib.Core.List.{List, map}
+use mathlib.Core.Bool.{Bool, true, false, _&&_}
+use mathlib.Core.List.{List, [], _∷_, map}
 use Prim.Native.Nat.{ℕ}
+use lib.Dec.{eqb}
 use lib.IntN.{ℤ}
 use lib.ListN.{length, replicate}
 use Rattle.lists.specs.Runs.{Result, end, answers}
@@ -17,7 +18,7 @@ use Rattle.table_bytes.specs.Reading.{readTable}
 use Rattle.table_bytes.specs.Writing as writing
 use Rattle.calls.specs.Calls.{Call, post, slot, called}
 use Rattle.calls.specs.Log.{run}
-use Rattle.boundary.specs.Words.{stateWords, wordCount}
+use Rattle.boundary.specs.Words.{stateWords, wordCount, wordsState, rightLength}
 use Rattle.boundary.specs.Boundary.{answerCode, wrongLength, stated, posted, begun, started, slotWords, slotStated, slotted, runStated, ran, figuresTold, figured, leadTold, led, writeTold, wrote}
 
 -- ---- one call
@@ -53,34 +54,68 @@ Write-by-value =
 
 -- ---- calls in a row
 
--- what a call tells: its outcome, and the lent answer afterwards
-pub record Heard : Type 0 where
-  pub outcome : ℕ
+-- what a main loop lends, call after call
+pub record Lent : Type 0 where
+  pub words : List ℕ
   pub answer : List ℕ
 
--- a post or a slot on lent words, which the next call gets; the answer that is lent to a slot holds `old`, and a post has none to write to
-abbrev pub lentCall : ℕ → (old : List ℕ) → (words : List ℕ) → Call → Result (List ℕ) Heard
-lentCall limit old words (post p count) =
-    let r = posted limit words p count in
-    record { state = r .words; answer = record { outcome = r .outcome; answer = old } }
-lentCall limit old words slot =
-    let r = slotted limit words old in
-    record { state = r .words; answer = record { outcome = r .outcome; answer = r .answer } }
+-- a post or a slot on it, and the outcome; a post is lent no answer
+abbrev pub lentCall : ℕ → Lent → Call → Result Lent ℕ
+lentCall limit lent (post p count) =
+    let r = posted limit (lent .words) p count in
+    record { state = record { words = r .words; answer = lent .answer }; answer = r .outcome }
+lentCall limit lent slot =
+    let r = slotted limit (lent .words) (lent .answer) in
+    record { state = record { words = r .words; answer = r .answer }; answer = r .outcome }
 
--- what the same call by value answers, as it is told
-abbrev pub heard : (old : List ℕ) → Answer → Heard
-heard old a = record { outcome = answerCode a; answer = slotWords old a }
+-- the lent answer after calls by value that answered so: each slot that was not refused writes over it
+unfoldable pub lastTold : (old : List ℕ) → List Answer → List ℕ
+lastTold old [] = old
+lastTold old (a ∷ rest) = lastTold (slotWords old a) rest
 
--- any list of posts and slots, refused ones too: the words at the end are those of the state at the end, and each call tells the answer
+-- Any list of posts and slots, refused ones too: the words at the end are those of the state at the end, each outcome is the answer's, and
+-- the lent answer is what the last slot told. A run is so many slots (guarantees, RunSlots).
 abbrev pub In-a-row : Type 0
 In-a-row =
     (limit : ℕ) (s : Arbiter) (old : List ℕ) (calls : List Call) → Shaped limit s → length old ≡ 2
-    → (end (lentCall limit old) (stateWords s) calls ≡ stateWords (end (called limit) s calls))
-    × (answers (lentCall limit old) (stateWords s) calls ≡ map (heard old) (answers (called limit) s calls))
+    → let lent : Lent = record { words = stateWords s; answer = old } in
+    let heard = answers (called limit) s calls in
+    (end (lentCall limit) lent calls ≡ record { words = stateWords (end (called limit) s calls); answer = lastTold old heard })
+    × (answers (lentCall limit) lent calls ≡ map answerCode heard)
 
 -- the state whose words a start leaves, whatever the bytes, is one that the claims above hold for
 abbrev pub Start-shaped : Type 0
 Start-shaped = (limit : ℕ) (bytes : List ℕ) (first : ℕ) → Shaped limit (begun limit (readTable limit bytes) first .state)
+
+-- ---- 255 and 23
+
+-- 255 is the outcome exactly where the lent words, or the lent answer, have a wrong length
+abbrev pub Exactly-255 : (lengths : Bool) → (outcome : ℕ) → Type 0
+Exactly-255 lengths outcome = (lengths ≡ false → outcome ≡ wrongLength) × (outcome ≡ wrongLength → lengths ≡ false)
+
+pub record Lengths (limit : ℕ) (words : List ℕ) : Type 0 where
+  pub start : (bytes : List ℕ) (first : ℕ) → Exactly-255 (rightLength limit words) (started limit bytes first words .outcome)
+  pub post : (p count : ℕ) → Exactly-255 (rightLength limit words && true) (posted limit words p count .outcome)
+  pub slot : (old : List ℕ) → Exactly-255 (rightLength limit words && eqb (length old) 2) (slotted limit words old .outcome)
+  pub run : (log : List ℕ) → Exactly-255 (rightLength limit words && true) (ran limit words log .outcome)
+  pub figures : (p j : ℕ) (old : List ℕ) → Exactly-255 (rightLength limit words && eqb (length old) 2) (figured limit words p j old .outcome)
+  pub lead : (p : ℕ) (log : List ℕ) (old : List ℤ) → Exactly-255 (rightLength limit words && eqb (length old) 1) (led limit words p log old .outcome)
+  pub write : (buffer old : List ℕ) → Exactly-255 (rightLength limit words && eqb (length old) 1) (wrote limit words buffer old .outcome)
+
+abbrev pub Wrong-length : Type 0
+Wrong-length = (limit : ℕ) (words : List ℕ) → Lengths limit words
+
+-- with the right lengths, words that are no sound state's are 23 in every call, whatever else is handed in
+pub record Broken (limit : ℕ) (words : List ℕ) : Type 0 where
+  pub post : (p count : ℕ) → posted limit words p count .outcome ≡ 23
+  pub slot : (old : List ℕ) → length old ≡ 2 → slotted limit words old .outcome ≡ 23
+  pub run : (log : List ℕ) → ran limit words log .outcome ≡ 23
+  pub figures : (p j : ℕ) (old : List ℕ) → length old ≡ 2 → figured limit words p j old .outcome ≡ 23
+  pub lead : (p : ℕ) (log : List ℕ) (old : List ℤ) → length old ≡ 1 → led limit words p log old .outcome ≡ 23
+  pub write : (buffer old : List ℕ) → length old ≡ 1 → wrote limit words buffer old .outcome ≡ 23
+
+abbrev pub Broken-words : Type 0
+Broken-words = (limit : ℕ) (words : List ℕ) → rightLength limit words ≡ true → sound limit (wordsState limit words) ≡ false → Broken limit words
 
 -- ---- what was not carried out
 

@@ -1,13 +1,16 @@
--- A refusal of any call has a number from 1 to 23 and names a place below the largest N, or none. So an outcome is at most 23 + 256 × N,
--- and tells both; 0 is no refusal, and 255 is none of document 01's.
+-- A refusal of any call has one of document 01's numbers, the cause that goes with it, and names a place below the largest N, or none. So
+-- an outcome is at most 23 + 256 × N and tells the refusal; 0 is no refusal, and 255 is none of document 01's.
 use mathlib.Core.Path.{_≡_}
+use mathlib.Core.Bool.{Bool, true}
 use mathlib.Core.List.{List}
-use Prim.Native.Nat.{ℕ, _≤_, _<_}
+use Prim.Native.Nat.{ℕ, _<_}
+use Rattle.lists.specs.Choices.{pick, inRange}
 use Rattle.arbiter.specs.declared.refusals.Named.{Named}
 use Rattle.arbiter.specs.declared.refusals.Named.the-variants as named
 use Rattle.arbiter.specs.declared.refusals.Refusal.{Refusal}
 use Rattle.arbiter.specs.declared.state.Arbiter.{Arbiter}
 use Rattle.arbiter.specs.declared.table.Table.{Table}
+use Rattle.arbiter.specs.Refusals.{originOf}
 use Rattle.arbiter.specs.Answers.{refused}
 use Rattle.arbiter.specs.Asked as asked
 use Rattle.leads.specs.Lead as leads
@@ -15,16 +18,27 @@ use Rattle.table_bytes.specs.Reading.{readTable}
 use Rattle.table_bytes.specs.Writing as writing
 use Rattle.calls.specs.Calls.{Call, called}
 use Rattle.calls.specs.Log.{run}
-use Rattle.boundary.specs.Boundary.{begun}
+use Rattle.boundary.specs.Boundary.{refusalCode, wrongLength, begun}
 
 abbrev pub Below : ℕ → Named → Type 0
 Below limit named.Nowhere = Unit {0}
 Below limit (named.Place p) = p < limit
 
+-- the numbers of refusals: 1 to 14 and 21 to 23
+abbrev pub known : ℕ → Bool
+known n = pick (inRange 1 14 n) true (inRange 21 23 n)
+
 pub record Told (limit : ℕ) (r : Refusal) : Type 0 where
-  pub least : 1 ≤ r .number
-  pub most : r .number ≤ 23
+  pub number : known (r .number) ≡ true
+  pub origin : r .origin ≡ originOf (r .number)
   pub place : Below limit (r .place)
+
+-- two refusals with one outcome are one refusal, and it is neither 0 nor 255
+abbrev pub Code-tells : Type 0
+Code-tells = (limit : ℕ) (r q : Refusal) → Told limit r → Told limit q → refusalCode r ≡ refusalCode q → r ≡ q
+
+abbrev pub Code-apart : Type 0
+Code-apart = (limit : ℕ) (r : Refusal) → Told limit r → (refusalCode r ≡ 0 → ⊥) × (refusalCode r ≡ wrongLength → ⊥)
 
 abbrev pub Start-names-below : Type 0
 Start-names-below =

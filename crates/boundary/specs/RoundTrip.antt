@@ -12,5 +12,9 @@ abbrev pub Words-read-back : Type 0
 Words-read-back =
     (limit : ℕ) (s : Arbiter) → Shaped limit s → (rightLength limit (stateWords s) ≡ true) × (wordsState limit (stateWords s) ≡ s)
 
+-- any words are those of a state that the claims on states hold for
+abbrev pub Words-shaped : Type 0
+Words-shaped = (limit : ℕ) (words : List ℕ) → Shaped limit (wordsState limit words)
+
 abbrev pub State-written-back : Type 0
 State-written-back = (limit : ℕ) (words : List ℕ) → rightLength limit words ≡ true → stateWords (wordsState limit words) ≡ words

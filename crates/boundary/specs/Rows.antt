@@ -33,13 +33,17 @@ fresh = freshAt 0
 abbrev pub threeEach : List ℕ
 threeEach = wordsT 0 (8 ∷ 3 ∷ 4 ∷ 3 ∷ [])
 
--- T with a rate of two to the power 32, which no field holds
+-- T with a rate of two to the power 32, which its field does not hold
 abbrev pub wide : List ℕ
 wide = rated 4294967296 0 (8 ∷ 0 ∷ 4 ∷ 0 ∷ [])
 
 -- words that hold nothing of use
 abbrev pub unused : ℕ → List ℕ
 unused n = replicate n 90
+
+-- the log of case 3
+abbrev pub nineSlots : List ℕ
+nineSlots = 0 ∷ 0 ∷ 1 ∷ 0 ∷ 1 ∷ 255 ∷ 255 ∷ 1 ∷ 255 ∷ []
 
 abbrev pub bytesT : (last : ℕ) → List ℕ
 bytesT last = 4 ∷ 2 ∷ 1 ∷ 8 ∷ 1 ∷ 4 ∷ 1 ∷ 4 ∷ 1 ∷ last ∷ []
@@ -107,6 +111,8 @@ rows =
     -- case 2: refused 7 at place 1 is 7 + 256 × 2; every word is 0. No bytes are refused 8, which names no place
     ∷ starting (bytesT 6) 0 (unused (wordCount maxPlaces)) (replicate (wordCount maxPlaces) 0) 519
     ∷ starting [] 0 (unused (wordCount maxPlaces)) (replicate (wordCount maxPlaces) 0) 8
+    -- a first slot number past its limit is refused 12
+    ∷ starting (bytesT 7) (maxSlot + 1) (unused (wordCount maxPlaces)) (replicate (wordCount maxPlaces) 0) 12
     -- one word fewer or more is 255, ahead of all else, and the words stay
     ∷ starting (bytesT 7) 0 (unused (wordCount maxPlaces - 1)) (unused (wordCount maxPlaces - 1)) 255
     ∷ starting [] 0 (unused (wordCount maxPlaces + 1)) (unused (wordCount maxPlaces + 1)) 255
@@ -120,9 +126,20 @@ rows =
     ∷ slotting threeEach (90 ∷ 91 ∷ []) (wordsT 1 (5 ∷ 2 ∷ 5 ∷ 3 ∷ [])) (0 ∷ 1 ∷ []) 0
     ∷ slotting (freshAt 7) (90 ∷ 91 ∷ []) (freshAt 8) (7 ∷ 0 ∷ []) 0
     ∷ slotting (freshAt maxSlot) (90 ∷ 91 ∷ []) (freshAt maxSlot) (90 ∷ 91 ∷ []) 22
+    -- case 3's slot 2 goes to place 1, told as 2; in its slot 5 nobody has the credit, though one waits
+    ∷ slotting (wordsT 2 (2 ∷ 1 ∷ 6 ∷ 3 ∷ [])) (90 ∷ 91 ∷ []) (wordsT 3 (3 ∷ 1 ∷ 3 ∷ 2 ∷ [])) (2 ∷ 2 ∷ []) 0
+    ∷ slotting (wordsT 5 (1 ∷ 0 ∷ 1 ∷ 1 ∷ [])) (90 ∷ 91 ∷ []) (wordsT 6 (2 ∷ 0 ∷ 2 ∷ 1 ∷ [])) (5 ∷ 0 ∷ []) 0
     -- an answer of one word or of three is 255
     ∷ slotting threeEach (90 ∷ []) threeEach (90 ∷ []) 255
     ∷ slotting threeEach (90 ∷ 91 ∷ 92 ∷ []) threeEach (90 ∷ 91 ∷ 92 ∷ []) 255
+    ∷ running (threeEach ++ 0 ∷ []) (90 ∷ []) (threeEach ++ 0 ∷ []) (90 ∷ []) 255
+    ∷ figuring fresh 1 1 (90 ∷ []) (90 ∷ []) 255
+    ∷ leading fresh 1 [] [] [] 255
+    ∷ writing fresh (unused 12) [] (unused 12) [] 255
+    -- words that fit and break a rule are 23: a credit above its burst, a backlog past its limit, no word but 0
+    ∷ posting (wordsT 0 (9 ∷ 0 ∷ 3 ∷ 0 ∷ [])) 0 0 (wordsT 0 (9 ∷ 0 ∷ 3 ∷ 0 ∷ [])) 23
+    ∷ posting (wordsT 0 (8 ∷ 0 ∷ 4 ∷ 65536 ∷ [])) 0 0 (wordsT 0 (8 ∷ 0 ∷ 4 ∷ 65536 ∷ [])) 23
+    ∷ slotting (replicate (wordCount maxPlaces) 0) (90 ∷ 91 ∷ []) (replicate (wordCount maxPlaces) 0) (90 ∷ 91 ∷ []) 23
     -- a word that its field cannot hold is 23 in every call; 255 is ahead of 23
     ∷ posting wide 0 0 wide 23
     ∷ slotting wide (90 ∷ 91 ∷ []) wide (90 ∷ 91 ∷ []) 23
@@ -133,11 +150,15 @@ rows =
     ∷ posting (wide ++ 0 ∷ []) 0 0 (wide ++ 0 ∷ []) 255
     ∷ slotting wide (90 ∷ []) wide (90 ∷ []) 255
     -- case 3's nine slots
-    ∷ running threeEach (unused 9) (wordsT 9 (5 ∷ 0 ∷ 1 ∷ 0 ∷ [])) (0 ∷ 0 ∷ 1 ∷ 0 ∷ 1 ∷ 255 ∷ 255 ∷ 1 ∷ 255 ∷ []) 0
+    ∷ running threeEach (unused 9) (wordsT 9 (5 ∷ 0 ∷ 1 ∷ 0 ∷ [])) nineSlots 0
     -- the wait and the finish figure of place 1; no transfer is refused 5 at the place asked for, 5 + 256 × 2
     ∷ figuring fresh 1 1 (90 ∷ 91 ∷ []) (3 ∷ 7 ∷ []) 0
     ∷ figuring fresh 1 0 (90 ∷ 91 ∷ []) (90 ∷ 91 ∷ []) 517
-    -- case 5: over the first two bytes place 1 has −2
+    -- a run that would pass the last slot number is refused 22
+    ∷ running (freshAt maxSlot) (90 ∷ []) (freshAt maxSlot) (90 ∷ []) 22
+    -- case 5: both lead by 3 after the nine slots; over the first two bytes place 1 has −2
+    ∷ leading fresh 0 nineSlots (pos 90 ∷ []) (pos 3 ∷ []) 0
+    ∷ leading fresh 1 nineSlots (pos 90 ∷ []) (pos 3 ∷ []) 0
     ∷ leading fresh 1 (0 ∷ 0 ∷ []) (pos 90 ∷ []) (negsuc 1 ∷ []) 0
     ∷ leading fresh 2 (0 ∷ 0 ∷ []) (pos 90 ∷ []) (pos 90 ∷ []) 11
     -- T's ten bytes, and what stands behind them stays; a buffer of nine is refused 14

@@ -13,7 +13,7 @@ ghost use Rattle.boundary.specs.Boundary.{refusalCode};
 ghost use Rattle.boundary.specs.Fits.{lentCode};
 ghost use Rattle.boundary.specs.Places.{Below};
 
-// Lent memory of a wrong length. No refusal of document 01 has this number.
+// A lent state or answer of a wrong length. No refusal of document 01 has this number.
 pub(crate) const WRONG_LENGTH: u64 = 255;
 
 // A refusal: its number in the low 8 bits, and above them the place it names + 1.

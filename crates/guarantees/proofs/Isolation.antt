@@ -1,5 +1,6 @@
 -- What the first m places are shown depends only on the table, the slot number, their own accounts and the calls that concern
--- them: these calls alone, on the state cut to these accounts, show the same. For every m, past N too. Assumes nothing.
+-- them: these calls alone, on the state cut to these accounts, show the same; and their order between places does not count (Orders).
+-- For every m, past N too. Assumes nothing.
 use mathlib.Core.Path.{_≡_, refl, sym, ap, ap₂, _∙_}
 use mathlib.Core.Bool.{true, false}
 use mathlib.Core.List.{List, [], _∷_}
@@ -25,10 +26,11 @@ use Rattle.calls.specs.declared.slot.Grant.the-variants.{Nobody, Place}
 use Rattle.calls.specs.Rule.{eligible, later, firstEligible, served, passed, after}
 use Rattle.calls.specs.Calls.{Call, post, slot, grantOf, advanced, withPost, slotAnswer, done, ruleVerdict, outcome, ruled, called}
 use Rattle.guarantees.specs.Counts.{startState}
-use Rattle.guarantees.specs.Isolation.{Isolation, Post-apart, concerns, concerning, view, Shown, shows, shown}
+use Rattle.guarantees.specs.Isolation.{Isolation, Post-apart, keep, concerning, view, Shown, shows, shown}
 use Rattle.calls.proofs.Head.{after-later, first-no-account, after-no-account}
 use Rattle.guarantees.proofs.Step.{by-kind}
 use Rattle.guarantees.proofs.Sound.{sound-next, call-ruled}
+use Rattle.guarantees.proofs.Orders.{concernsFirst, concerningFirst, any-order}
 use Rattle.guarantees.proofs.Start.{start-state-sound}
 
 -- ---- one post
@@ -116,14 +118,14 @@ module _ (m : ℕ) (s : Arbiter) where
   unfolding cut withPost
   cut-posted-past p count h = rw take-set-le
 
-  -- a call that concerns the first m places is judged by what the cut state keeps, and does there what it does on the whole
-  cut-verdict : (c : Call) → concerns m c ≡ true → ruleVerdict (cut m s) c ≡ ruleVerdict s c
-  unfolding cut concerns ruleVerdict
+  -- a call that concernsFirst the first m places is judged by what the cut state keeps, and does there what it does on the whole
+  cut-verdict : (c : Call) → concernsFirst m c ≡ true → ruleVerdict (cut m s) c ≡ ruleVerdict s c
+  unfolding cut concernsFirst ruleVerdict
   cut-verdict (post p count) e = rw (getD-take m (s .accounts) p noAccount (ltb-true p m e))
   cut-verdict slot e = refl
 
-  seen-done : (c : Call) → concerns m c ≡ true → Seen m (done s c) (done (cut m s) c)
-  unfolding cut concerns done
+  seen-done : (c : Call) → concernsFirst m c ≡ true → Seen m (done s c) (done (cut m s) c)
+  unfolding cut concernsFirst done
   seen-done (post p count) e = record { state = cut-filled p count (ltb-true p m e); answer = refl }
   seen-done slot e = rw cut-grant (record { state = cut-advanced (grantOf s); answer = view-seen m (s .slot .0) (grantOf s) })
 
@@ -131,14 +133,14 @@ module _ (m : ℕ) (s : Arbiter) where
   seen-outcome c faultless h = h
   seen-outcome c (fault r) h = record { state = refl; answer = refl }
 
-  seen-ruled : (c : Call) → concerns m c ≡ true → Seen m (ruled s c) (ruled (cut m s) c)
+  seen-ruled : (c : Call) → concernsFirst m c ≡ true → Seen m (ruled s c) (ruled (cut m s) c)
   unfolding ruled
   seen-ruled c e = rw (cut-verdict c e) (seen-outcome c (ruleVerdict s c) (seen-done c e))
 
   -- any other call changes nothing that the cut state keeps
-  unseen-ruled : (c : Call) → concerns m c ≡ false → cut m (ruled s c .state) ≡ cut m s
-  unfolding concerns
-  unseen-ruled c = by-kind (λ c u a. concerns m c ≡ false → cut m u ≡ cut m s) s c
+  unseen-ruled : (c : Call) → concernsFirst m c ≡ false → cut m (ruled s c .state) ≡ cut m s
+  unfolding concernsFirst
+  unseen-ruled c = by-kind (λ c u a. concernsFirst m c ≡ false → cut m u ≡ cut m s) s c
       (λ r v e. refl)
       (λ p count v e. cut-posted-past p count (ltb-false p m e))
       (λ v e. true-false e)
@@ -152,22 +154,17 @@ module _ (m : ℕ) where
   shows-seen slot whole part rest h =
       ap₂ (λ l v. record { accounts = l; answer = v } ∷ rest) (rw (h .state, take-take m m (whole .state .accounts) (omega arith))) (h .answer)
 
-  shows-unseen : (c : Call) (r : Result Arbiter Answer) (rest : List Shown) → concerns m c ≡ false → shows m c r rest ≡ rest
-  unfolding concerns shows
+  shows-unseen : (c : Call) (r : Result Arbiter Answer) (rest : List Shown) → concernsFirst m c ≡ false → shows m c r rest ≡ rest
+  unfolding concernsFirst shows
   shows-unseen (post p count) r rest e = refl
   shows-unseen slot r rest e = true-false e
 
-  shown-cut : (s : Arbiter) (calls : List Call) → shown ruled m s calls ≡ shown ruled m (cut m s) (concerning m calls)
-  unfolding concerning shown
+  shown-cut : (s : Arbiter) (calls : List Call) → shown ruled m s calls ≡ shown ruled m (cut m s) (concerningFirst m calls)
+  unfolding concerningFirst shown
   shown-cut s [] = refl
-  shown-cut s (c ∷ cs) = rw (shown-cut (ruled s c .state) cs) (cases (concerns m c)
+  shown-cut s (c ∷ cs) = rw (shown-cut (ruled s c .state) cs) (cases (concernsFirst m c)
       (λ e. let h = seen-ruled m s c e in rw (e, shows-seen c (ruled s c) (ruled (cut m s) c), h .state))
       (λ e. rw (e, shows-unseen, unseen-ruled)))
-
-  -- two states with the same table, slot number and first m accounts, and calls that are the same where they concern these
-  pub shown-ruled-apart : (s u : Arbiter) (calls others : List Call) → cut m s ≡ cut m u → concerning m calls ≡ concerning m others
-      → shown ruled m s calls ≡ shown ruled m u others
-  shown-ruled-apart s u calls others p q = shown-cut s calls ∙ ap₂ (shown ruled m) p q ∙ sym (shown-cut u others)
 
 -- the contracts' calls, from a sound state
 module _ (limit : ℕ) where
@@ -176,9 +173,12 @@ module _ (limit : ℕ) where
   shown-same m s v [] = refl
   shown-same m s v (c ∷ cs) = rw (call-ruled limit s c v, shown-same m (ruled s c .state) (sound-next limit s c v) cs)
 
-  pub shown-apart : (s : Arbiter) → Sound limit s → (m : ℕ) (calls others : List Call) → concerning m calls ≡ concerning m others
-      → shown (called limit) m s calls ≡ shown (called limit) m s others
-  shown-apart s v m calls others q = shown-same m s v calls ∙ shown-ruled-apart m s s calls others refl q ∙ sym (shown-same m s v others)
+  pub shown-apart : (s : Arbiter) → Sound limit s → (k : ℕ) (calls others : List Call) → ((i : ℕ) → i ≤ k → concerning i calls ≡ concerning i others)
+      → shown (called limit) (suc k) s calls ≡ shown (called limit) (suc k) s others
+  shown-apart s v k calls others same =
+      shown-same (suc k) s v calls ∙ shown-cut (suc k) s calls
+      ∙ any-order (suc k) (omega arith) (cut (suc k) s) calls others (λ i h. same i (omega arith))
+      ∙ sym (shown-cut (suc k) s others) ∙ sym (shown-same (suc k) s v others)
 
 pub isolation : Isolation
-isolation limit t first ok k = shown-apart limit (startState limit t first) (start-state-sound limit t first ok) (suc k)
+isolation limit t first ok k = shown-apart limit (startState limit t first) (start-state-sound limit t first ok) k

@@ -3,8 +3,8 @@
 use mathlib.Core.Path.{_≡_}
 use mathlib.Core.Bool.{Bool, true, false}
 use mathlib.Core.List.{List, [], _∷_}
-use Prim.Native.Nat.{ℕ, suc}
-use lib.Dec.{ltb}
+use Prim.Native.Nat.{ℕ, suc, _≤_}
+use lib.Dec.{ltb, eqb}
 use lib.ListN.{take}
 use Rattle.lists.specs.Choices.{pick}
 use Rattle.lists.specs.Runs
@@ -27,14 +27,15 @@ abbrev pub keep : Bool → Call → List Call → List Call
 keep true c cs = c ∷ cs
 keep false c cs = cs
 
+-- a slot concerns every place, a post its own
 unfoldable pub concerns : ℕ → Call → Bool
-concerns m (post p count) = ltb p m
-concerns m slot = true
+concerns i (post p count) = eqb p i
+concerns i slot = true
 
--- the slots, and the posts to the first m places, refused ones included
+-- the slots, and the posts to place i, refused ones included
 unfoldable pub concerning : ℕ → List Call → List Call
-concerning m [] = []
-concerning m (c ∷ cs) = keep (concerns m c) c (concerning m cs)
+concerning i [] = []
+concerning i (c ∷ cs) = keep (concerns i c) c (concerning i cs)
 
 -- a slot's answer as the first m places see it: a grant to one of them, or none to them, or a refusal
 pub data View : Type 0 where
@@ -64,8 +65,9 @@ unfoldable pub shown : (Arbiter → Call → Runs.Result Arbiter Answer) → ℕ
 shown step m s [] = []
 shown step m s (c ∷ cs) = shows m c (step s c) (shown step m (step s c .state) cs)
 
--- places 0 to k are the first suc k
+-- Places 0 to k are the first suc k. Each of them is posted the same before each slot; between two slots the posts to different places
+-- may come in any order, and those to other places are free.
 abbrev pub Isolation : Type 0
 Isolation = (limit : ℕ) (t : Table) (first : ℕ) → Accepted limit t first → (k : ℕ) (calls others : List Call)
-    → concerning (suc k) calls ≡ concerning (suc k) others
+    → ((i : ℕ) → i ≤ k → concerning i calls ≡ concerning i others)
     → shown (called limit) (suc k) (startState limit t first) calls ≡ shown (called limit) (suc k) (startState limit t first) others
