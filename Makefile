@@ -14,6 +14,7 @@ test:
 	@.ci/run
 
 picture:
+	@mkdir -p target
 	@$(MAKE) -s run >target/basin.txt
 	@cd rust && cargo run --offline --quiet --package timeline -- pump 'pH probe' 'chlorine probe' handset 'service log' \
 	    <../target/basin.txt >../docs/basin.svg
