@@ -1,4 +1,5 @@
--- Every row passes: the definitions compute to what is written. Assumes nothing.
+-- Every row passes: the definitions compute to what is written. One list after the other, since the check counts the steps of each
+-- proof and the words grow with the largest N. Assumes nothing.
 use mathlib.Core.Path.{refl}
 use Rattle.lists.specs.Sums.{total, joined, every, upTo}
 use Rattle.lists.specs.Overwriting.{writtenOver}
@@ -18,8 +19,31 @@ use Rattle.calls.specs.Calls.{grantOf, advanced, withCount, withPost, done, rul
 use Rattle.calls.specs.Log.{slotsState, slotsLog, slotsVerdict, runVerdict, run}
 use Rattle.boundary.specs.Words.{stateWords, placesFrom, wordsState}
 use Rattle.boundary.specs.Boundary.{refusalCode, onState, posted, begun, started, slotted, ran, figured, led, wrote}
-use Rattle.boundary.specs.Rows.{twoPlaces, rated, rows, All-pass}
+use Rattle.boundary.specs.Rows.{twoPlaces, rated, startRows, postRows, slotRows, runRows, askedRows, writeRows, Pass, All-pass}
+
+start-pass : Pass startRows
+unfolding total joined every upTo writtenOver lastGroup combined laterGroups numberOf groupsOf numberBytes gate then tableOf heldTo rowVerdict eachPlace tailVerdict rateSumVerdict tableVerdict roundedUp finish finishVerdict admissionVerdict accountsHold sound placeVerdict opening noState startVerdict start figuresVerdict figures inputVerdict leadOf leadVerdict leadAsked next fieldRead rowRead itemsRead placesRead numbersRead lastVerdict settled readTable tableNumbers tableBytes writeVerdict writeTable eligible later firstEligible served passed after grantOf advanced withCount withPost done ruleVerdict called slotsState slotsLog slotsVerdict runVerdict run stateWords placesFrom wordsState refusalCode onState posted begun started slotted ran figured led wrote twoPlaces rated startRows
+start-pass = refl
+
+post-pass : Pass postRows
+unfolding total joined every upTo writtenOver lastGroup combined laterGroups numberOf groupsOf numberBytes gate then tableOf heldTo rowVerdict eachPlace tailVerdict rateSumVerdict tableVerdict roundedUp finish finishVerdict admissionVerdict accountsHold sound placeVerdict opening noState startVerdict start figuresVerdict figures inputVerdict leadOf leadVerdict leadAsked next fieldRead rowRead itemsRead placesRead numbersRead lastVerdict settled readTable tableNumbers tableBytes writeVerdict writeTable eligible later firstEligible served passed after grantOf advanced withCount withPost done ruleVerdict called slotsState slotsLog slotsVerdict runVerdict run stateWords placesFrom wordsState refusalCode onState posted begun started slotted ran figured led wrote twoPlaces rated postRows
+post-pass = refl
+
+slot-pass : Pass slotRows
+unfolding total joined every upTo writtenOver lastGroup combined laterGroups numberOf groupsOf numberBytes gate then tableOf heldTo rowVerdict eachPlace tailVerdict rateSumVerdict tableVerdict roundedUp finish finishVerdict admissionVerdict accountsHold sound placeVerdict opening noState startVerdict start figuresVerdict figures inputVerdict leadOf leadVerdict leadAsked next fieldRead rowRead itemsRead placesRead numbersRead lastVerdict settled readTable tableNumbers tableBytes writeVerdict writeTable eligible later firstEligible served passed after grantOf advanced withCount withPost done ruleVerdict called slotsState slotsLog slotsVerdict runVerdict run stateWords placesFrom wordsState refusalCode onState posted begun started slotted ran figured led wrote twoPlaces rated slotRows
+slot-pass = refl
+
+run-pass : Pass runRows
+unfolding total joined every upTo writtenOver lastGroup combined laterGroups numberOf groupsOf numberBytes gate then tableOf heldTo rowVerdict eachPlace tailVerdict rateSumVerdict tableVerdict roundedUp finish finishVerdict admissionVerdict accountsHold sound placeVerdict opening noState startVerdict start figuresVerdict figures inputVerdict leadOf leadVerdict leadAsked next fieldRead rowRead itemsRead placesRead numbersRead lastVerdict settled readTable tableNumbers tableBytes writeVerdict writeTable eligible later firstEligible served passed after grantOf advanced withCount withPost done ruleVerdict called slotsState slotsLog slotsVerdict runVerdict run stateWords placesFrom wordsState refusalCode onState posted begun started slotted ran figured led wrote twoPlaces rated runRows
+run-pass = refl
+
+asked-pass : Pass askedRows
+unfolding total joined every upTo writtenOver lastGroup combined laterGroups numberOf groupsOf numberBytes gate then tableOf heldTo rowVerdict eachPlace tailVerdict rateSumVerdict tableVerdict roundedUp finish finishVerdict admissionVerdict accountsHold sound placeVerdict opening noState startVerdict start figuresVerdict figures inputVerdict leadOf leadVerdict leadAsked next fieldRead rowRead itemsRead placesRead numbersRead lastVerdict settled readTable tableNumbers tableBytes writeVerdict writeTable eligible later firstEligible served passed after grantOf advanced withCount withPost done ruleVerdict called slotsState slotsLog slotsVerdict runVerdict run stateWords placesFrom wordsState refusalCode onState posted begun started slotted ran figured led wrote twoPlaces rated askedRows
+asked-pass = refl
+
+write-pass : Pass writeRows
+unfolding total joined every upTo writtenOver lastGroup combined laterGroups numberOf groupsOf numberBytes gate then tableOf heldTo rowVerdict eachPlace tailVerdict rateSumVerdict tableVerdict roundedUp finish finishVerdict admissionVerdict accountsHold sound placeVerdict opening noState startVerdict start figuresVerdict figures inputVerdict leadOf leadVerdict leadAsked next fieldRead rowRead itemsRead placesRead numbersRead lastVerdict settled readTable tableNumbers tableBytes writeVerdict writeTable eligible later firstEligible served passed after grantOf advanced withCount withPost done ruleVerdict called slotsState slotsLog slotsVerdict runVerdict run stateWords placesFrom wordsState refusalCode onState posted begun started slotted ran figured led wrote twoPlaces rated writeRows
+write-pass = refl
 
 pub all-pass : All-pass
-unfolding total joined every upTo writtenOver lastGroup combined laterGroups numberOf groupsOf numberBytes gate then tableOf heldTo rowVerdict eachPlace tailVerdict rateSumVerdict tableVerdict roundedUp finish finishVerdict admissionVerdict accountsHold sound placeVerdict opening noState startVerdict start figuresVerdict figures inputVerdict leadOf leadVerdict leadAsked next fieldRead rowRead itemsRead placesRead numbersRead lastVerdict settled readTable tableNumbers tableBytes writeVerdict writeTable eligible later firstEligible served passed after grantOf advanced withCount withPost done ruleVerdict called slotsState slotsLog slotsVerdict runVerdict run stateWords placesFrom wordsState refusalCode onState posted begun started slotted ran figured led wrote twoPlaces rated rows
-all-pass = refl
+all-pass = (start-pass, post-pass, slot-pass, run-pass, asked-pass, write-pass)

@@ -104,8 +104,8 @@ writing words buffer old after answer o = record {
   written = wrote-as (record { buffer = after; answer = answer; outcome = o });
 }
 
-unfoldable pub rows : List Row
-rows =
+unfoldable pub startRows : List Row
+startRows =
     -- a start writes T's words
     starting (bytesT 7) 0 (unused (wordCount maxPlaces)) fresh 0
     -- case 2: refused 7 at place 1 is 7 + 256 × 2; every word is 0. No bytes are refused 8, which names no place
@@ -116,55 +116,80 @@ rows =
     -- one word fewer or more is 255, ahead of all else, and the words stay
     ∷ starting (bytesT 7) 0 (unused (wordCount maxPlaces - 1)) (unused (wordCount maxPlaces - 1)) 255
     ∷ starting [] 0 (unused (wordCount maxPlaces + 1)) (unused (wordCount maxPlaces + 1)) 255
+    ∷ []
+
+unfoldable pub postRows : List Row
+postRows =
     -- case 3: three posted to each; place 2 is refused 11, and a backlog past its limit 21
-    ∷ posting fresh 0 3 (wordsT 0 (8 ∷ 3 ∷ 4 ∷ 0 ∷ [])) 0
+    posting fresh 0 3 (wordsT 0 (8 ∷ 3 ∷ 4 ∷ 0 ∷ [])) 0
     ∷ posting (wordsT 0 (8 ∷ 3 ∷ 4 ∷ 0 ∷ [])) 1 3 threeEach 0
     ∷ posting fresh 2 1 fresh 11
     ∷ posting threeEach 1 65533 threeEach 21
     ∷ posting (threeEach ++ 0 ∷ []) 0 0 (threeEach ++ 0 ∷ []) 255
+    -- words that fit and break a rule are 23: a credit above its burst, a backlog past its limit
+    ∷ posting (wordsT 0 (9 ∷ 0 ∷ 3 ∷ 0 ∷ [])) 0 0 (wordsT 0 (9 ∷ 0 ∷ 3 ∷ 0 ∷ [])) 23
+    ∷ posting (wordsT 0 (8 ∷ 0 ∷ 4 ∷ 65536 ∷ [])) 0 0 (wordsT 0 (8 ∷ 0 ∷ 4 ∷ 65536 ∷ [])) 23
+    -- a word that its field cannot hold is 23, here and in every call; 255 is ahead of 23
+    ∷ posting wide 0 0 wide 23
+    ∷ posting (wide ++ 0 ∷ []) 0 0 (wide ++ 0 ∷ []) 255
+    ∷ []
+
+unfoldable pub slotRows : List Row
+slotRows =
     -- granted in slot 0 to place 0, told as 1; idle with nothing waiting, told as 0; the last slot number is refused 22
-    ∷ slotting threeEach (90 ∷ 91 ∷ []) (wordsT 1 (5 ∷ 2 ∷ 5 ∷ 3 ∷ [])) (0 ∷ 1 ∷ []) 0
+    slotting threeEach (90 ∷ 91 ∷ []) (wordsT 1 (5 ∷ 2 ∷ 5 ∷ 3 ∷ [])) (0 ∷ 1 ∷ []) 0
     ∷ slotting (freshAt 7) (90 ∷ 91 ∷ []) (freshAt 8) (7 ∷ 0 ∷ []) 0
     ∷ slotting (freshAt maxSlot) (90 ∷ 91 ∷ []) (freshAt maxSlot) (90 ∷ 91 ∷ []) 22
     -- case 3's slot 2 goes to place 1, told as 2; in its slot 5 nobody has the credit, though one waits
     ∷ slotting (wordsT 2 (2 ∷ 1 ∷ 6 ∷ 3 ∷ [])) (90 ∷ 91 ∷ []) (wordsT 3 (3 ∷ 1 ∷ 3 ∷ 2 ∷ [])) (2 ∷ 2 ∷ []) 0
     ∷ slotting (wordsT 5 (1 ∷ 0 ∷ 1 ∷ 1 ∷ [])) (90 ∷ 91 ∷ []) (wordsT 6 (2 ∷ 0 ∷ 2 ∷ 1 ∷ [])) (5 ∷ 0 ∷ []) 0
-    -- an answer of one word or of three is 255
+    -- words that are all 0 are no state's
+    ∷ slotting (replicate (wordCount maxPlaces) 0) (90 ∷ 91 ∷ []) (replicate (wordCount maxPlaces) 0) (90 ∷ 91 ∷ []) 23
+    ∷ slotting wide (90 ∷ 91 ∷ []) wide (90 ∷ 91 ∷ []) 23
+    -- an answer of one word or of three is 255, ahead of 23
     ∷ slotting threeEach (90 ∷ []) threeEach (90 ∷ []) 255
     ∷ slotting threeEach (90 ∷ 91 ∷ 92 ∷ []) threeEach (90 ∷ 91 ∷ 92 ∷ []) 255
-    ∷ running (threeEach ++ 0 ∷ []) (90 ∷ []) (threeEach ++ 0 ∷ []) (90 ∷ []) 255
-    ∷ figuring fresh 1 1 (90 ∷ []) (90 ∷ []) 255
-    ∷ leading fresh 1 [] [] [] 255
-    ∷ writing fresh (unused 12) [] (unused 12) [] 255
-    -- words that fit and break a rule are 23: a credit above its burst, a backlog past its limit, no word but 0
-    ∷ posting (wordsT 0 (9 ∷ 0 ∷ 3 ∷ 0 ∷ [])) 0 0 (wordsT 0 (9 ∷ 0 ∷ 3 ∷ 0 ∷ [])) 23
-    ∷ posting (wordsT 0 (8 ∷ 0 ∷ 4 ∷ 65536 ∷ [])) 0 0 (wordsT 0 (8 ∷ 0 ∷ 4 ∷ 65536 ∷ [])) 23
-    ∷ slotting (replicate (wordCount maxPlaces) 0) (90 ∷ 91 ∷ []) (replicate (wordCount maxPlaces) 0) (90 ∷ 91 ∷ []) 23
-    -- a word that its field cannot hold is 23 in every call; 255 is ahead of 23
-    ∷ posting wide 0 0 wide 23
-    ∷ slotting wide (90 ∷ 91 ∷ []) wide (90 ∷ 91 ∷ []) 23
-    ∷ running wide (90 ∷ []) wide (90 ∷ []) 23
-    ∷ figuring wide 0 1 (90 ∷ 91 ∷ []) (90 ∷ 91 ∷ []) 23
-    ∷ leading wide 0 [] (pos 90 ∷ []) (pos 90 ∷ []) 23
-    ∷ writing wide (unused 10) (90 ∷ []) (unused 10) (90 ∷ []) 23
-    ∷ posting (wide ++ 0 ∷ []) 0 0 (wide ++ 0 ∷ []) 255
     ∷ slotting wide (90 ∷ []) wide (90 ∷ []) 255
+    ∷ []
+
+unfoldable pub runRows : List Row
+runRows =
     -- case 3's nine slots
-    ∷ running threeEach (unused 9) (wordsT 9 (5 ∷ 0 ∷ 1 ∷ 0 ∷ [])) nineSlots 0
-    -- the wait and the finish figure of place 1; no transfer is refused 5 at the place asked for, 5 + 256 × 2
-    ∷ figuring fresh 1 1 (90 ∷ 91 ∷ []) (3 ∷ 7 ∷ []) 0
-    ∷ figuring fresh 1 0 (90 ∷ 91 ∷ []) (90 ∷ 91 ∷ []) 517
+    running threeEach (unused 9) (wordsT 9 (5 ∷ 0 ∷ 1 ∷ 0 ∷ [])) nineSlots 0
     -- a run that would pass the last slot number is refused 22
     ∷ running (freshAt maxSlot) (90 ∷ []) (freshAt maxSlot) (90 ∷ []) 22
+    ∷ running wide (90 ∷ []) wide (90 ∷ []) 23
+    ∷ running (threeEach ++ 0 ∷ []) (90 ∷ []) (threeEach ++ 0 ∷ []) (90 ∷ []) 255
+    ∷ []
+
+unfoldable pub askedRows : List Row
+askedRows =
+    -- the wait and the finish figure of place 1; no transfer is refused 5 at the place asked for, 5 + 256 × 2
+    figuring fresh 1 1 (90 ∷ 91 ∷ []) (3 ∷ 7 ∷ []) 0
+    ∷ figuring fresh 1 0 (90 ∷ 91 ∷ []) (90 ∷ 91 ∷ []) 517
+    ∷ figuring wide 0 1 (90 ∷ 91 ∷ []) (90 ∷ 91 ∷ []) 23
+    ∷ figuring fresh 1 1 (90 ∷ []) (90 ∷ []) 255
     -- case 5: both lead by 3 after the nine slots; over the first two bytes place 1 has −2
     ∷ leading fresh 0 nineSlots (pos 90 ∷ []) (pos 3 ∷ []) 0
     ∷ leading fresh 1 nineSlots (pos 90 ∷ []) (pos 3 ∷ []) 0
     ∷ leading fresh 1 (0 ∷ 0 ∷ []) (pos 90 ∷ []) (negsuc 1 ∷ []) 0
     ∷ leading fresh 2 (0 ∷ 0 ∷ []) (pos 90 ∷ []) (pos 90 ∷ []) 11
-    -- T's ten bytes, and what stands behind them stays; a buffer of nine is refused 14
-    ∷ writing fresh (unused 12) (91 ∷ []) (bytesT 7 ++ 90 ∷ 90 ∷ []) (10 ∷ []) 0
-    ∷ writing fresh (unused 9) (91 ∷ []) (unused 9) (91 ∷ []) 14
+    ∷ leading wide 0 [] (pos 90 ∷ []) (pos 90 ∷ []) 23
+    ∷ leading fresh 1 [] [] [] 255
     ∷ []
 
+unfoldable pub writeRows : List Row
+writeRows =
+    -- T's ten bytes, and what stands behind them stays; a buffer of nine is refused 14
+    writing fresh (unused 12) (91 ∷ []) (bytesT 7 ++ 90 ∷ 90 ∷ []) (10 ∷ []) 0
+    ∷ writing fresh (unused 9) (91 ∷ []) (unused 9) (91 ∷ []) 14
+    ∷ writing wide (unused 10) (90 ∷ []) (unused 10) (90 ∷ []) 23
+    ∷ writing fresh (unused 12) [] (unused 12) [] 255
+    ∷ []
+
+-- what each row asks for is what is written
+abbrev pub Pass : List Row → Type 0
+Pass rows = map (λ r. r .asked) rows ≡ map (λ r. r .written) rows
+
 abbrev pub All-pass : Type 0
-All-pass = map (λ r. r .asked) rows ≡ map (λ r. r .written) rows
+All-pass = Pass startRows × Pass postRows × Pass slotRows × Pass runRows × Pass askedRows × Pass writeRows
