@@ -373,6 +373,10 @@ write-never : (limit : ℕ) (a : writing.WriteAnswer) → ((r : Refusal) → a �
 write-never limit (writing.wrote bytes) t e = absurd (omega arith)
 write-never limit (writing.refused r) t e = code-apart limit r (t r refl) .1 e
 
+and-one : (b : Bool) → (b && true) ≡ b
+and-one true = refl
+and-one false = refl
+
 module _ (limit : ℕ) (words : List ℕ) where
   abbrev here : Arbiter
   here = wordsState limit words
@@ -382,6 +386,10 @@ module _ (limit : ℕ) (words : List ℕ) where
   start-length bytes first = cases (rightLength limit words)
       (λ q. rw q ((λ f. true-false f), λ f. absurd (code-never limit (begun limit (readTable limit bytes) first .answer) (start-names-below limit bytes first) f)))
       (λ q. rw q ((λ f. refl), λ f. refl))
+
+  -- of a call that is lent no answer the words' length alone counts
+  words-only : (outcome : ℕ) → Exactly-255 (rightLength limit words && true) outcome → Exactly-255 (rightLength limit words) outcome
+  words-only outcome e = rw (and-one (rightLength limit words)) at e
 
   call-length : (c : Call) → answerCode (called limit here c .answer) ≡ wrongLength → ⊥
   call-length c = code-never limit (called limit here c .answer) (calls-name-below limit here c)
@@ -398,9 +406,9 @@ module _ (limit : ℕ) (words : List ℕ) where
   unfolding posted slotted ran figured led wrote
   lengths = record {
     start = start-length;
-    post = λ p count. exactly limit words true _ (λ s. stated (called limit s (post p count))) (λ x. x .outcome) refl (call-length (post p count));
+    post = λ p count. words-only _ (exactly limit words true _ (λ s. stated (called limit s (post p count))) (λ x. x .outcome) refl (call-length (post p count)));
     slot = λ old. exactly limit words (eqb (length old) 2) _ (λ s. slotStated old (called limit s slot)) (λ x. x .outcome) refl (call-length slot);
-    run = λ log. exactly limit words true _ (λ s. runStated (run limit s log)) (λ x. x .outcome) refl (code-never limit (run limit here log .answer) (runs-name-below limit here log));
+    run = λ log. words-only _ (exactly limit words true _ (λ s. runStated (run limit s log)) (λ x. x .outcome) refl (code-never limit (run limit here log .answer) (runs-name-below limit here log)));
     figures = λ p j old. exactly limit words (eqb (length old) 2) _ (λ s. figuresTold old (asked.figures limit s p j)) (λ x. x .outcome) refl (figures-never limit old (asked.figures limit here p j) (figures-name-below limit here p j));
     lead = λ p log old. exactly limit words (eqb (length old) 1) _ (λ s. leadTold old (leads.leadAsked limit s p log)) (λ x. x .outcome) refl (lead-never limit old (leads.leadAsked limit here p log) (leads-name-below limit here p log));
     write = λ buffer old. exactly limit words (eqb (length old) 1) _ _ (λ (x : Wrote). x .outcome) refl (written-length buffer old);

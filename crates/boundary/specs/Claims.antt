@@ -95,9 +95,9 @@ Exactly-255 lengths outcome = (lengths ≡ false → outcome ≡ wrongLength) ×
 
 pub record Lengths (limit : ℕ) (words : List ℕ) : Type 0 where
   pub start : (bytes : List ℕ) (first : ℕ) → Exactly-255 (rightLength limit words) (started limit bytes first words .outcome)
-  pub post : (p count : ℕ) → Exactly-255 (rightLength limit words && true) (posted limit words p count .outcome)
+  pub post : (p count : ℕ) → Exactly-255 (rightLength limit words) (posted limit words p count .outcome)
   pub slot : (old : List ℕ) → Exactly-255 (rightLength limit words && eqb (length old) 2) (slotted limit words old .outcome)
-  pub run : (log : List ℕ) → Exactly-255 (rightLength limit words && true) (ran limit words log .outcome)
+  pub run : (log : List ℕ) → Exactly-255 (rightLength limit words) (ran limit words log .outcome)
   pub figures : (p j : ℕ) (old : List ℕ) → Exactly-255 (rightLength limit words && eqb (length old) 2) (figured limit words p j old .outcome)
   pub lead : (p : ℕ) (log : List ℕ) (old : List ℤ) → Exactly-255 (rightLength limit words && eqb (length old) 1) (led limit words p log old .outcome)
   pub write : (buffer old : List ℕ) → Exactly-255 (rightLength limit words && eqb (length old) 1) (wrote limit words buffer old .outcome)
