@@ -2,7 +2,7 @@
 
 use core::fmt;
 
-use crate::{sys, Refusal, Slots, Transfers};
+use crate::{sys, Refusal, Slots, Table, Transfers};
 
 /// An arbiter's state: its table, its credits and backlogs, and the number of the slot that comes next.
 ///
@@ -50,7 +50,7 @@ impl Arbiter {
     /// What a log holds for an idle slot.
     pub const LOG_IDLE: u8 = 255;
     /// Room for the bytes of any table: at most 5 for each number, D, N and 4 for each of 16 places.
-    pub const TABLE_ROOM: usize = 5 * (2 + 4 * 16);
+    pub const TABLE_ROOM: usize = 5 * Table::NUMBERS;
 
     /// Reads a table's bytes and stands at slot number `first`: every credit is its burst, and nothing waits.
     ///
@@ -69,6 +69,33 @@ impl Arbiter {
         // SAFETY: both pointers have their lengths behind them, and the words are a local of their own.
         let outcome =
             unsafe { sys::justrave_start(table.as_ptr(), table.len(), first.0, words.as_mut_ptr(), words.len()) };
+        Refusal::check(outcome).map(|()| Arbiter { words })
+    }
+
+    /// The same for a table given as numbers.
+    ///
+    /// # Errors
+    ///
+    /// 1, 2, then 3, 4, 5 place by place, then 6, 7; and then 12 for the slot number.
+    ///
+    /// ```
+    /// use justrave::{Arbiter, Requestor, Slots, Table, Transfers};
+    ///
+    /// let pump = Requestor { rate: 1, burst: 8, need: Transfers(1), within: Slots(4) };
+    /// let bytes = [4, 1, 1, 8, 1, 4];
+    /// assert_eq!(Arbiter::start_table(&Table::of(4, &[pump]), Slots(0)), Arbiter::start(&bytes, Slots(0)));
+    ///
+    /// let hasty = Requestor { within: Slots(3), ..pump };
+    /// let refusal = Arbiter::start_table(&Table::of(4, &[pump, hasty]), Slots(0)).unwrap_err();
+    /// assert_eq!((refusal.number, refusal.place), (7, Some(1)));
+    /// ```
+    pub fn start_table(table: &Table, first: Slots) -> Result<Arbiter, Refusal> {
+        let numbers = table.numbers();
+        let mut words = [0; Arbiter::STATE_WORDS];
+        // SAFETY: numbers and words are locals of their own, each with its length behind it.
+        let outcome = unsafe {
+            sys::justrave_start_numbers(numbers.as_ptr(), numbers.len(), first.0, words.as_mut_ptr(), words.len())
+        };
         Refusal::check(outcome).map(|()| Arbiter { words })
     }
 

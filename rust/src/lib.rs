@@ -2,7 +2,7 @@
 //!
 //! Time on the line is cut into **slots**, and a slot carries at most one **transfer**. The arbiter says, slot by slot, whose
 //! transfer goes next. Each requestor has a place, 0 the most urgent, with a rate, a burst and a need; the table of them is
-//! given as bytes. What the arbiter answers is proved; this crate is the safe door to it for Rust, and holds no rule of its own.
+//! given as bytes or as numbers ([`Table`]). What the arbiter answers is proved; this crate is the safe door to it for Rust, and holds no rule of its own.
 //!
 //! ```
 //! use justrave::{Arbiter, SlotAnswer, Slots, Transfers};
@@ -33,8 +33,10 @@
 mod arbiter;
 mod refusal;
 pub mod sys;
+mod table;
 mod units;
 
 pub use arbiter::{Arbiter, Figures, SlotAnswer};
 pub use refusal::{Cause, Refusal};
+pub use table::{Requestor, Table};
 pub use units::{Slots, Transfers};

@@ -1,8 +1,8 @@
 //! The library's functions as it exports them. `include/justrave.h` says what each does and what a caller owes; [`crate::Arbiter`]
 //! sees to it that nothing is owed.
 //!
-//! A slice crosses as a pointer and a length. A pointer is never null, even where the length is 0, and memory that is lent for
-//! writing overlaps no other memory of the same call.
+//! A slice crosses as a pointer and a length. Where the length is 0 nothing is read or written behind the pointer, and it may be
+//! null. Memory that is lent for writing overlaps no other memory of the same call.
 
 #![allow(missing_docs)]
 
@@ -12,6 +12,14 @@ extern "C" {
     pub fn justrave_start(
         table: *const u8,
         table_length: usize,
+        first: u64,
+        state: *mut u64,
+        state_length: usize,
+    ) -> u64;
+
+    pub fn justrave_start_numbers(
+        numbers: *const u32,
+        numbers_length: usize,
         first: u64,
         state: *mut u64,
         state_length: usize,

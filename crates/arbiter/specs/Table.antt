@@ -29,6 +29,10 @@ noRequestor = record { rate = 0; burst = 0; need = record { 0 = 0 }; within = re
 abbrev pub requestorClear : Requestor → Bool
 requestorClear r = eqb (r .rate) 0 && (eqb (r .burst) 0 && (eqb (r .need .0) 0 && eqb (r .within .0) 0))
 
+-- the numbers of a row, in the order of a table's bytes
+abbrev pub rowNumbers : Requestor → List ℕ
+rowNumbers r = r .rate ∷ r .burst ∷ r .need .0 ∷ r .within .0 ∷ []
+
 -- the requestor of place p in a list that begins at place 0
 abbrev pub requestorAt : ℕ → List Requestor → Requestor
 requestorAt p rs = getD rs p noRequestor

@@ -2,6 +2,7 @@
 use crate::refusals::Cause;
 use crate::state::Account;
 use crate::state::Arbiter;
+use crate::state::no_account;
 use crate::table::Table;
 use crate::table::bare_table;
 use crate::units::Slots;
@@ -27,11 +28,8 @@ pub struct StartResult {
 pub(crate) fn opening_accounts(t: Table) -> [Account; Arbiter::MAX_PLACES]
     ensures { λ r. ⌜ r ≡ map fresh (t .requestors) ⌝ }
 {
-    let empty = Account {
-        credit: 0,
-        backlog: Transfers(0),
-    };
-    let mut accounts = [empty; Arbiter::MAX_PLACES];
+    let none = no_account();
+    let mut accounts = [none; Arbiter::MAX_PLACES];
     let mut p: usize = 0;
     while p < Arbiter::MAX_PLACES {
         let r = t.requestors[p];
@@ -48,14 +46,11 @@ pub(crate) fn opening_accounts(t: Table) -> [Account; Arbiter::MAX_PLACES]
 pub fn no_state() -> Arbiter
     ensures { λ r. ⌜ r ≡ noState maxPlaces ⌝ }
 {
-    let empty = Account {
-        credit: 0,
-        backlog: Transfers(0),
-    };
+    let none = no_account();
     Arbiter {
         table: bare_table(0, 0),
         slot: Slots(0),
-        accounts: [empty; Arbiter::MAX_PLACES],
+        accounts: [none; Arbiter::MAX_PLACES],
     }
 }
 

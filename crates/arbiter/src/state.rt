@@ -16,7 +16,7 @@ ghost use Prim.Native.Nat.{_≤_};
 ghost use lib.ListN.{drop};
 ghost use Rattle.lists.specs.Sums.{every};
 ghost use Rattle.arbiter.specs.Limits.{maxDenominator, maxPlaces, maxBurst, maxNeed, maxWithin, maxBacklog, maxSlot, maxInput};
-ghost use Rattle.arbiter.specs.State.{accountClear, accountsHold, sound};
+ghost use Rattle.arbiter.specs.State.{noAccount, accountClear, accountsHold, sound};
 ghost use Rattle.arbiter.specs.Start.{start, startResultOf};
 
 // What a slot changes of one place: its credit c and its backlog q.
@@ -30,6 +30,16 @@ pub struct Arbiter {
     pub table: Table,
     pub slot: Slots,
     pub accounts: [Account; Arbiter::MAX_PLACES],
+}
+
+// An account past place N-1: both fields are 0.
+pub fn no_account() -> Account
+    ensures { λ a. ⌜ a ≡ noAccount ⌝ }
+{
+    Account {
+        credit: 0,
+        backlog: Transfers(0),
+    }
 }
 
 fn account_is_clear(a: Account) -> bool

@@ -35,12 +35,6 @@ pub fn columns_of(t: Table) -> Columns
     }
 }
 
-fn wide(x: u32) -> u64
-    ensures { λ (r : ℕ). ⌜ (r ≡ x) × (r ≤ 4294967295) ⌝ }
-{
-    x as u64
-}
-
 // The sum of the numbers above place p.
 fn sum_above(numbers: &[u32], p: usize) -> u64
     requires { ⌜ (p ≤ maxPlaces) × (p ≤ length (now numbers)) ⌝ }
@@ -51,7 +45,7 @@ fn sum_above(numbers: &[u32], p: usize) -> u64
         0
     } else {
         let q = p - 1;
-        sum_above(numbers, q) + wide(numbers[q])
+        sum_above(numbers, q) + (numbers[q] as u64)
     }
 }
 

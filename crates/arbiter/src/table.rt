@@ -15,7 +15,7 @@ ghost use lib.ListN.{drop};
 ghost use Rattle.lists.specs.Sums.{every};
 ghost use Rattle.arbiter.specs.Limits.{maxPlaces};
 ghost use Rattle.arbiter.specs.Refusals.{verdictOf};
-ghost use Rattle.arbiter.specs.Table.{tableOf, requestorClear, tailVerdict, rateSumVerdict, requestorsOf, rowVerdict, eachPlace, tableVerdict};
+ghost use Rattle.arbiter.specs.Table.{noRequestor, tableOf, requestorClear, tailVerdict, rateSumVerdict, requestorsOf, rowVerdict, eachPlace, tableVerdict};
 
 // One row of the table: the rate n, the burst b, and the need of j transfers within L slots.
 pub struct Requestor {
@@ -32,17 +32,24 @@ pub struct Table {
     pub requestors: [Requestor; Arbiter::MAX_PLACES],
 }
 
-// A table of D and N whose rows are all 0.
-pub fn bare_table(d: u32, n: usize) -> Table
-    ensures { λ t. ⌜ t ≡ tableOf maxPlaces d n [] ⌝ }
+// A row past place N-1: every field is 0.
+pub fn no_requestor() -> Requestor
+    ensures { λ r. ⌜ r ≡ noRequestor ⌝ }
 {
-    let row = Requestor {
+    Requestor {
         rate: 0,
         burst: 0,
         need: Transfers(0),
         within: Slots(0),
-    };
-    let rows = [row; Arbiter::MAX_PLACES];
+    }
+}
+
+// A table of D and N whose rows are all 0.
+pub fn bare_table(d: u32, n: usize) -> Table
+    ensures { λ t. ⌜ t ≡ tableOf maxPlaces d n [] ⌝ }
+{
+    let none = no_requestor();
+    let rows = [none; Arbiter::MAX_PLACES];
     Table {
         denominator: d,
         count: n,

@@ -13,10 +13,11 @@ use Rattle.lists.proofs.Tests.{cases, true-false, and-true, true-and}
 use Rattle.arbiter.specs.declared.refusals.Named.the-variants as named
 use Rattle.arbiter.specs.declared.refusals.Refusal.{Refusal}
 use Rattle.arbiter.specs.declared.state.Arbiter.{Arbiter}
+use Rattle.arbiter.specs.declared.table.Table.{Table}
 use Rattle.arbiter.specs.Limits.{maxBurst}
 use Rattle.arbiter.specs.Refusals.{Verdict, faultless, fault, refusal, gate, resolve}
 use Rattle.arbiter.specs.Answers.{Answer, accepted, granted, refused}
-use Rattle.arbiter.specs.State.{sound, Shaped}
+use Rattle.arbiter.specs.State.{sound}
 use Rattle.arbiter.specs.Start.{noState, start}
 use Rattle.arbiter.proofs.Sound.{sound-open}
 use Rattle.table_bytes.specs.Reading.{TableRead, readTable}
@@ -26,11 +27,11 @@ use Rattle.calls.specs.Calls.{Call, post, slot, grantOf, slotAnswer, done, rule
 use Rattle.calls.specs.Log.{Outcome, slotsState, slotsLog, runVerdict, run}
 use Rattle.calls.proofs.Verdicts.{called-unsound}
 use Rattle.calls.proofs.Logs.{byte-fits, run-unsound}
-use Rattle.boundary.specs.Words.{stateWords, rowStart, accountStart, wordCount, rowFrom, accountFrom, wordsState, rightLength}
-use Rattle.boundary.specs.Boundary.{refusalCode, answerCode, wrongLength, onState, Stated, stated, begun, started, posted, Slotted, slotWords, slotStated, slotted, Ran, runStated, ran}
+use Rattle.boundary.specs.Words.{stateWords, wordCount, wordsState, rightLength}
+use Rattle.boundary.specs.Numbers.{numberCount, numbersTable}
+use Rattle.boundary.specs.Boundary.{refusalCode, answerCode, wrongLength, onState, Stated, stated, begun, leaves, started, startedOf, posted, Slotted, slotWords, slotStated, slotted, Ran, runStated, ran}
 use Rattle.boundary.specs.Fits.{maxField, wordsFit, lentCode}
 use Rattle.boundary.specs.Places.{Below}
-use Rattle.boundary.proofs.Items.{length-places}
 use Rattle.boundary.proofs.Fitting.{sound-fits}
 use Rattle.boundary.proofs.RoundTrip.{words-shaped, state-written-back}
 
@@ -142,16 +143,33 @@ begun-refused limit t first r s a e = rw (a, e)
 pub begun-of : (limit : ℕ) (t u : TableRead) (first : ℕ) (d : Result Arbiter Answer) → t ≡ u → d ≡ begun limit t first → d ≡ begun limit u first
 begun-of limit t u first d e f = rw e at f
 
-module _ (limit : ℕ) (bytes : List ℕ) (first : ℕ) (words : List ℕ) where
-  pub start-length : (length words ≡ wordCount limit → ⊥) → _≡_ {A = Stated} (record { words = words; outcome = 255 }) (started limit bytes first words)
-  unfolding started
-  start-length h = rw (ne-eqb (length words) (wordCount limit) h)
+module _ (limit first : ℕ) (words : List ℕ) where
+  abbrev wrong : Stated
+  wrong = record { words = words; outcome = 255 }
 
-  pub start-told : length words ≡ wordCount limit → (d : Result Arbiter Answer) → d ≡ begun limit (readTable limit bytes) first
-      → (after : List ℕ) (o : ℕ) → after ≡ stateWords (d .state) → o ≡ answerCode (d .answer)
-      → _≡_ {A = Stated} (record { words = after; outcome = o }) (started limit bytes first words)
-  unfolding started
-  start-told h d e after o f g = rw (eq-eqb (length words) (wordCount limit) h, ← e, f, g)
+  pub start-length : (bytes : List ℕ) → (length words ≡ wordCount limit → ⊥) → wrong ≡ started limit bytes first words
+  unfolding started leaves
+  start-length bytes h = rw (ne-eqb (length words) (wordCount limit) h)
+
+  pub words-length : (numbers : List ℕ) → (length words ≡ wordCount limit → ⊥) → wrong ≡ startedOf limit numbers first words
+  unfolding startedOf leaves
+  words-length numbers h = rw (ne-eqb (length words) (wordCount limit) h)
+
+  module _ (long : length words ≡ wordCount limit) where
+    pub numbers-length : (numbers : List ℕ) → (length numbers ≡ numberCount limit → ⊥) → wrong ≡ startedOf limit numbers first words
+    unfolding startedOf leaves
+    numbers-length numbers h = rw (eq-eqb (length words) (wordCount limit) long, ne-eqb (length numbers) (numberCount limit) h)
+
+    module _ (told : Stated) (d : Result Arbiter Answer) (f : told ≡ stated d) where
+      pub start-told : (bytes : List ℕ) → d ≡ begun limit (readTable limit bytes) first → told ≡ started limit bytes first words
+      unfolding started leaves
+      start-told bytes e = rw (eq-eqb (length words) (wordCount limit) long, ← e) f
+
+      pub numbers-told : (numbers : List ℕ) → length numbers ≡ numberCount limit → (t : Table) → t ≡ numbersTable limit numbers → d ≡ start limit t first
+          → told ≡ startedOf limit numbers first words
+      unfolding startedOf leaves
+      numbers-told numbers all t g e =
+          rw (eq-eqb (length words) (wordCount limit) long, eq-eqb (length numbers) (numberCount limit) all, ← g, ← e) f
 
 -- ---- post
 

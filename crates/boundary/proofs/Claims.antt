@@ -1,7 +1,7 @@
 -- The calls on lent words as the calls by value, one by one and in a row; and what was not carried out. Assumes nothing.
 use mathlib.Core.Path.{_≡_, refl, ap, sym, _∙_}
 use mathlib.Core.Bool.{Bool, true, false, _&&_}
-use mathlib.Core.List.{List, [], _∷_, _++_, map}
+use mathlib.Core.List.{List, [], _∷_, _++_}
 use Prim.Native.Nat.{ℕ, zero, suc, _+_, _*_, _≤_}
 use native.Mathlib.Omega.{arith}
 use borrow.Author.Tests.{eq-eqb}
@@ -19,7 +19,7 @@ use Rattle.arbiter.specs.declared.state.Arbiter.{Arbiter}
 use Rattle.arbiter.specs.declared.table.Table.{Table}
 use Rattle.arbiter.specs.Refusals.{Verdict, faultless, fault, refusal, gate, then, resolve}
 use Rattle.arbiter.specs.Answers.{Answer, accepted, granted, idle, refused, unless}
-use Rattle.arbiter.specs.Table.{noRequestor, tableOf, denominatorBounds, countBounds, requestorsOf}
+use Rattle.arbiter.specs.Table.{noRequestor, tableOf, denominatorBounds, countBounds, requestorsOf, rowNumbers}
 use Rattle.arbiter.specs.State.{noAccount, sound, Shaped, placeVerdict}
 use Rattle.arbiter.specs.Start.{fresh, opening, noState, startVerdict, start}
 use Rattle.arbiter.specs.Asked as asked
@@ -33,13 +33,15 @@ use Rattle.calls.specs.Log.{Outcome, run}
 use Rattle.calls.proofs.Slots.{after-length}
 use Rattle.calls.proofs.Verdicts.{called-unsound}
 use Rattle.calls.proofs.Logs.{run-unsound}
-use Rattle.boundary.specs.Words.{rowWords, accountWords, stateWords, wordCount, wordsState, rightLength}
-use Rattle.boundary.specs.Boundary.{refusalCode, answerCode, wrongLength, onState, stated, begun, posted, started, slotWords, slotStated, slotted, runStated, ran, figuresTold, figured, leadTold, led, Wrote, writeCode, writeTold, wrote}
+use Rattle.boundary.specs.Words.{accountWords, stateWords, wordCount, wordsState, rightLength, rowFrom}
+use Rattle.boundary.specs.Numbers.{numbersRow, numbersTable, rightNumbers}
+use Rattle.boundary.specs.Boundary.{refusalCode, answerCode, wrongLength, onState, stated, begun, posted, leaves, started, startedOf, slotWords, slotStated, slotted, runStated, ran, figuresTold, figured, leadTold, led, Wrote, writeCode, writeTold, wrote}
 use Rattle.boundary.specs.Places.{Told}
-use Rattle.boundary.specs.Claims.{Post-by-value, Slot-by-value, Run-by-value, Figures-by-value, Lead-by-value, Write-by-value, Lent, lentCall, lastTold, In-a-row, Exactly-255, Lengths, Wrong-length, Broken, Broken-words, Start-shaped, Refused, Post-refused, Slot-refused, Run-refused, Figures-refused, Lead-refused, Write-refused, Start-refused}
-use Rattle.boundary.proofs.RoundTrip.{words-read-back}
+use Rattle.boundary.specs.Claims.{Post-by-value, Start-by-value, Slot-by-value, Run-by-value, Figures-by-value, Lead-by-value, Write-by-value, lentCall, lastTold, In-a-row, Exactly-255, Lengths, Wrong-length, Broken, Broken-words, Start-shaped, Start-of-numbers-shaped, Refused, Clears, Post-refused, Slot-refused, Run-refused, Figures-refused, Lead-refused, Write-refused, Start-refused, Start-of-numbers-refused}
+use Rattle.boundary.proofs.Items.{length-places}
+use Rattle.boundary.proofs.RoundTrip.{words-read-back, numbers-read-back}
 use Rattle.boundary.proofs.Boundary.{same-words, called-refused, ran-refused}
-use Rattle.boundary.proofs.Places.{code-apart, start-names-below, calls-name-below, runs-name-below, leads-name-below, figures-name-below, write-names-below}
+use Rattle.boundary.proofs.Places.{code-apart, start-names-below, start-of-numbers-names-below, calls-name-below, runs-name-below, leads-name-below, figures-name-below, write-names-below}
 
 -- ---- one call
 
@@ -52,6 +54,10 @@ module _ {X : Type 0} (limit : ℕ) (s : Arbiter) (fits : Bool) (down : X) (call
 pub post-by-value : Post-by-value
 unfolding posted
 post-by-value limit s p count v = on-words limit s true _ (λ t. stated (called limit t (post p count))) v refl
+
+pub start-by-value : Start-by-value
+unfolding startedOf leaves
+start-by-value limit t first words rows long = let back = numbers-read-back limit t rows in rw (long, back .0, back .1)
 
 pub slot-by-value : Slot-by-value
 unfolding slotted
@@ -192,6 +198,11 @@ start-shaped limit bytes first = by (readTable limit bytes .answer)
     by (idle stamp) = made
     by (refused r) = none-shaped limit
 
+pub start-of-numbers-shaped : Start-of-numbers-shaped
+unfolding numbersTable
+start-of-numbers-shaped limit numbers first =
+    start-of limit (numbersTable limit numbers) first (length-places (λ p. rowFrom numbers (numbersRow p)) 0 limit)
+
 -- ---- what was not carried out
 
 -- what holds where the length is wrong, and of the call on the words' state, holds of a call on lent words
@@ -283,10 +294,17 @@ write-refused limit words buffer old =
     by true t h = told t (writing.writeVerdict limit t (length buffer)) h
     by false t h = (refl, refl)
 
+-- the outcome of an answer whose refusals are document 01's
+code-never : (limit : ℕ) (a : Answer) → ((r : Refusal) → a ≡ refused r → Told limit r) → answerCode a ≡ wrongLength → ⊥
+code-never limit accepted t e = absurd (omega arith)
+code-never limit (granted stamp p) t e = absurd (omega arith)
+code-never limit (idle stamp) t e = absurd (omega arith)
+code-never limit (refused r) t e = code-apart limit r (t r refl) .1 e
+
 -- ---- a refused start
 
 -- the words of the state whose every field is 0
-clear-rows : (n : ℕ) → joined rowWords (replicate n noRequestor) ≡ replicate (4 * n) 0
+clear-rows : (n : ℕ) → joined rowNumbers (replicate n noRequestor) ≡ replicate (4 * n) 0
 unfolding joined
 clear-rows zero = refl
 clear-rows (suc n) = let more : 4 * suc n ≡ suc (suc (suc (suc (4 * n)))) = omega arith in rw (more, clear-rows n)
@@ -326,23 +344,27 @@ begun-none limit t first r e = by (t .answer) e
     by (idle stamp) f = started-none limit (t .table) first r f
     by (refused q) f = refl
 
+-- whatever made it
+module _ (limit : ℕ) (lengths : Bool) (words : List ℕ) (d : Result Arbiter Answer) where
+  clears : ((r : Refusal) → d .answer ≡ refused r → d .state ≡ noState limit) → ((r : Refusal) → d .answer ≡ refused r → Told limit r)
+      → Clears limit words (leaves lengths words d)
+  unfolding leaves
+  clears none tells = cases lengths
+      (λ q. rw q ((λ h k. by-refusal (d .answer) h (λ r e. ap stateWords (none r e) ∙ clear-words limit)), λ e. absurd (code-never limit (d .answer) tells e)))
+      (λ q. rw q ((λ h k. absurd (k refl)), λ e. refl))
+
 pub start-refused : Start-refused
 unfolding started
-start-refused limit bytes first words = cases (rightLength limit words)
-    (λ q. rw q (clears, λ e. by-code (d .answer) refl e))
-    (λ q. rw q ((λ h k. absurd (k refl)), λ e. refl))
-  where
-    d : Result Arbiter Answer
-    d = begun limit (readTable limit bytes) first
+start-refused limit bytes first words =
+    clears limit (rightLength limit words) words (begun limit (readTable limit bytes) first)
+    (begun-none limit (readTable limit bytes) first) (start-names-below limit bytes first)
 
-    clears : Refused (answerCode (d .answer)) → (answerCode (d .answer) ≡ wrongLength → ⊥) → stateWords (d .state) ≡ replicate (wordCount limit) 0
-    clears h k = by-refusal (d .answer) h (λ r e. ap stateWords (begun-none limit (readTable limit bytes) first r e) ∙ clear-words limit)
-
-    by-code : (a : Answer) → d .answer ≡ a → answerCode a ≡ wrongLength → stateWords (d .state) ≡ words
-    by-code accepted e f = absurd (omega arith)
-    by-code (granted stamp p) e f = absurd (omega arith)
-    by-code (idle stamp) e f = absurd (omega arith)
-    by-code (refused r) e f = absurd (code-apart limit r (start-names-below limit bytes first r e) .1 f)
+pub start-of-numbers-refused : Start-of-numbers-refused
+unfolding startedOf
+start-of-numbers-refused limit numbers first words =
+    let t = numbersTable limit numbers in
+    clears limit (rightLength limit words && rightNumbers limit numbers) words (start limit t first)
+    (started-none limit t first) (start-of-numbers-names-below limit t first)
 
 -- ---- 255 and 23
 
@@ -353,13 +375,6 @@ module _ {X : Type 0} (limit : ℕ) (words : List ℕ) (fits : Bool) (down : X) 
   exactly e never = cases (rightLength limit words && fits)
       (λ q. rw q ((λ f. true-false f), λ f. absurd (never f)))
       (λ q. rw q ((λ f. e), λ f. refl))
-
--- the outcome of an answer whose refusals are document 01's
-code-never : (limit : ℕ) (a : Answer) → ((r : Refusal) → a ≡ refused r → Told limit r) → answerCode a ≡ wrongLength → ⊥
-code-never limit accepted t e = absurd (omega arith)
-code-never limit (granted stamp p) t e = absurd (omega arith)
-code-never limit (idle stamp) t e = absurd (omega arith)
-code-never limit (refused r) t e = code-apart limit r (t r refl) .1 e
 
 figures-never : (limit : ℕ) (old : List ℕ) (a : asked.FiguresAnswer) → ((r : Refusal) → a ≡ asked.refused r → Told limit r) → figuresTold old a .outcome ≡ wrongLength → ⊥
 figures-never limit old (asked.figured wait finish) t e = absurd (omega arith)
@@ -373,6 +388,13 @@ write-never : (limit : ℕ) (a : writing.WriteAnswer) → ((r : Refusal) → a �
 write-never limit (writing.wrote bytes) t e = absurd (omega arith)
 write-never limit (writing.refused r) t e = code-apart limit r (t r refl) .1 e
 
+leaves-length : (limit : ℕ) (lengths : Bool) (words : List ℕ) (d : Result Arbiter Answer) → ((r : Refusal) → d .answer ≡ refused r → Told limit r)
+    → Exactly-255 lengths (leaves lengths words d .outcome)
+unfolding leaves
+leaves-length limit lengths words d tells = cases lengths
+    (λ q. rw q ((λ f. true-false f), λ f. absurd (code-never limit (d .answer) tells f)))
+    (λ q. rw q ((λ f. refl), λ f. refl))
+
 and-one : (b : Bool) → (b && true) ≡ b
 and-one true = refl
 and-one false = refl
@@ -380,12 +402,6 @@ and-one false = refl
 module _ (limit : ℕ) (words : List ℕ) where
   abbrev here : Arbiter
   here = wordsState limit words
-
-  start-length : (bytes : List ℕ) (first : ℕ) → Exactly-255 (rightLength limit words) (started limit bytes first words .outcome)
-  unfolding started
-  start-length bytes first = cases (rightLength limit words)
-      (λ q. rw q ((λ f. true-false f), λ f. absurd (code-never limit (begun limit (readTable limit bytes) first .answer) (start-names-below limit bytes first) f)))
-      (λ q. rw q ((λ f. refl), λ f. refl))
 
   -- of a call that is lent no answer the words' length alone counts
   words-only : (outcome : ℕ) → Exactly-255 (rightLength limit words && true) outcome → Exactly-255 (rightLength limit words) outcome
@@ -403,9 +419,10 @@ module _ (limit : ℕ) (words : List ℕ) where
       (λ q. rw q (λ f. absurd (omega arith)))
 
   lengths : Lengths limit words
-  unfolding posted slotted ran figured led wrote
+  unfolding started startedOf posted slotted ran figured led wrote
   lengths = record {
-    start = start-length;
+    start = λ bytes first. leaves-length limit (rightLength limit words) words (begun limit (readTable limit bytes) first) (start-names-below limit bytes first);
+    numbers = λ numbers first. leaves-length limit (rightLength limit words && rightNumbers limit numbers) words (start limit (numbersTable limit numbers) first) (start-of-numbers-names-below limit (numbersTable limit numbers) first);
     post = λ p count. words-only _ (exactly limit words true _ (λ s. stated (called limit s (post p count))) (λ x. x .outcome) refl (call-length (post p count)));
     slot = λ old. exactly limit words (eqb (length old) 2) _ (λ s. slotStated old (called limit s slot)) (λ x. x .outcome) refl (call-length slot);
     run = λ log. words-only _ (exactly limit words true _ (λ s. runStated (run limit s log)) (λ x. x .outcome) refl (code-never limit (run limit here log .answer) (runs-name-below limit here log)));

@@ -13,9 +13,9 @@ use Rattle.lists.proofs.Overwriting.{stored-behind, length-over, part-behind, w
 use Rattle.arbiter.specs.declared.table.Requestor.{Requestor}
 use Rattle.arbiter.specs.declared.state.Account.{Account}
 use Rattle.arbiter.specs.declared.state.Arbiter.{Arbiter}
-use Rattle.arbiter.specs.Table.{noRequestor}
+use Rattle.arbiter.specs.Table.{noRequestor, rowNumbers}
 use Rattle.arbiter.specs.State.{noAccount, Shaped}
-use Rattle.boundary.specs.Words.{rowWords, accountWords, headWords, stateWords, wordCount}
+use Rattle.boundary.specs.Words.{accountWords, headWords, stateWords, wordCount}
 use Rattle.boundary.proofs.Words.{length-rows, length-accounts, length-state}
 
 -- ---- items one behind the other
@@ -29,23 +29,23 @@ module _ {X : Type 0} (write : X → List ℕ) (xs : List X) (old : List ℕ) wh
   pub put-all : (words : List ℕ) (p : ℕ) → words ≡ writtenOver (joined write (take p xs)) old → length xs ≤ p → words ≡ writtenOver (joined write xs) old
   put-all words p e h = e ∙ ap (λ l. writtenOver (joined write l) old) (take-all p xs h)
 
-module _ (rs : List Requestor) (old words : List ℕ) (p : ℕ) (e : words ≡ writtenOver (joined rowWords (take p rs)) old) (h : p ≤ length rs) (room : 4 * length rs ≤ length old) where
-  rows-long : length (joined rowWords (take p rs)) ≡ 4 * p
+module _ (rs : List Requestor) (old words : List ℕ) (p : ℕ) (e : words ≡ writtenOver (joined rowNumbers (take p rs)) old) (h : p ≤ length rs) (room : 4 * length rs ≤ length old) where
+  rows-long : length (joined rowNumbers (take p rs)) ≡ 4 * p
   rows-long = omega (arith, length-rows (take p rs), length-take-le p rs h)
 
   pub rows-length : length words ≡ length old
-  rows-length = rw e (length-over (joined rowWords (take p rs)) old (omega (arith, rows-long)))
+  rows-length = rw e (length-over (joined rowNumbers (take p rs)) old (omega (arith, rows-long)))
 
   -- one row more, stored behind them
   pub row-put : (r : Requestor) → p < length rs → r ≡ getD rs p noRequestor
       → set (set (set (set words (4 * p) (r .rate)) (4 * p + 1) (r .burst)) (4 * p + 2) (r .need .0)) (4 * p + 3) (r .within .0)
-      ≡ writtenOver (joined rowWords (take (p + 1) rs)) old
+      ≡ writtenOver (joined rowNumbers (take (p + 1) rs)) old
   row-put r inside here =
       let one : 4 * p + 1 ≡ suc (4 * p) = omega arith in
       let two : 4 * p + 2 ≡ suc (suc (4 * p)) = omega arith in
       let three : 4 * p + 3 ≡ suc (suc (suc (4 * p))) = omega arith in
-      rw (one, two, three, e, here, joined-next rowWords noRequestor rs p inside)
-      (stored-behind (joined rowWords (take p rs)) old (rowWords (getD rs p noRequestor)) (4 * p) rows-long (omega arith))
+      rw (one, two, three, e, here, joined-next rowNumbers noRequestor rs p inside)
+      (stored-behind (joined rowNumbers (take p rs)) old (rowNumbers (getD rs p noRequestor)) (4 * p) rows-long (omega arith))
 
 module _ (xs : List Account) (old words : List ℕ) (p : ℕ) (e : words ≡ writtenOver (joined accountWords (take p xs)) old) (h : p ≤ length xs) (room : 2 * length xs ≤ length old) where
   accounts-long : length (joined accountWords (take p xs)) ≡ 2 * p
@@ -82,7 +82,7 @@ module _ (s : Arbiter) (old : List ℕ) where
 
   -- the state's words are all of them
   pub state-put : (limit : ℕ) → Shaped limit s → length old ≡ wordCount limit
-      → writtenOver ((headWords s ++ joined rowWords (s .table .requestors)) ++ joined accountWords (s .accounts)) old ≡ stateWords s
+      → writtenOver ((headWords s ++ joined rowNumbers (s .table .requestors)) ++ joined accountWords (s .accounts)) old ≡ stateWords s
   unfolding writtenOver stateWords
   state-put limit v long =
       let none : drop (length (stateWords s)) old ≡ [] = drop-of-length-le old {i = length (stateWords s)} (omega (arith, length-state limit s v)) in

@@ -1,4 +1,4 @@
--- The round trip of a state and its words. Assumes nothing.
+-- The round trip of a state and its words, and of a table and its numbers. Assumes nothing.
 use mathlib.Core.Path.{_≡_, refl, ap, sym, _∙_}
 use mathlib.Core.List.{List, [], _∷_, _++_, append-nil, append-assoc}
 use Prim.Native.Nat.{ℕ, _+_, _*_}
@@ -8,7 +8,9 @@ use lib.ListN.{length, getD, drop, drop-of-length-le}
 use lib.Seq.{drop-cons}
 use Rattle.lists.specs.Sums.{joined}
 use Rattle.arbiter.specs.declared.state.Arbiter.{Arbiter}
-use Rattle.boundary.specs.Words.{rowWords, accountWords, headWords, stateWords, rowStart, accountStart, wordCount, rowFrom, accountFrom, wordsRows, wordsAccounts, wordsState}
+use Rattle.arbiter.specs.Table.{rowNumbers}
+use Rattle.boundary.specs.Words.{accountWords, headWords, stateWords, rowStart, accountStart, wordCount, rowFrom, accountFrom, wordsRows, wordsAccounts, wordsState}
+use Rattle.boundary.specs.Numbers.{allNumbers, numbersTable, numberCount, Numbers-read-back, Table-written-back}
 use Rattle.boundary.specs.RoundTrip.{Words-read-back, Words-shaped, State-written-back}
 use Rattle.boundary.proofs.Items.{length-places, written-read, read-written}
 use Rattle.boundary.proofs.Words.{rows, accounts, length-rows, length-state}
@@ -20,12 +22,12 @@ module _ (s : Arbiter) where
   unfolding stateWords rows accounts
   rows-back =
       let a = joined accountWords (s .accounts) in
-      written-read rows (stateWords s) (s .table .requestors) 0 (headWords s) a refl (append-assoc (headWords s) (joined rowWords (s .table .requestors)) a)
+      written-read (rows 3) (stateWords s) (s .table .requestors) 0 (headWords s) a refl (append-assoc (headWords s) (joined rowNumbers (s .table .requestors)) a)
 
   accounts-back : (limit : ℕ) → length (s .table .requestors) ≡ limit → length (s .accounts) ≡ limit → wordsAccounts limit (stateWords s) ≡ s .accounts
   unfolding stateWords rows accounts
   accounts-back limit e f =
-      let front = headWords s ++ joined rowWords (s .table .requestors) in
+      let front = headWords s ++ joined rowNumbers (s .table .requestors) in
       let a = joined accountWords (s .accounts) in
       let long : length front ≡ accountStart limit 0 = omega (arith, length-rows (s .table .requestors)) in
       rw f at (written-read (accounts limit) (stateWords s) (s .accounts) 0 front [] long (ap (λ l. front ++ l) (sym (append-nil a))))
@@ -43,12 +45,12 @@ words-read-back limit s v =
 pub written-back : (limit : ℕ) (words : List ℕ) → length words ≡ wordCount limit → stateWords (wordsState limit words) ≡ words
 unfolding stateWords wordsState rows accounts
 written-back limit words long =
-    let r = joined rowWords (wordsRows limit words) in
+    let r = joined rowNumbers (wordsRows limit words) in
     let a = joined accountWords (wordsAccounts limit words) in
     let none : drop (wordCount limit) words ≡ [] = drop-of-length-le words {i = wordCount limit} (omega arith) in
     let last : a ++ drop (wordCount limit) words ≡ drop (accountStart limit 0) words = read-written (accounts limit) words limit (omega arith) in
     let accounts-stand : a ≡ drop (accountStart limit 0) words = sym (append-nil a) ∙ ap (λ l. a ++ l) (sym none) ∙ last in
-    let rows-stand : r ++ drop (3 + 4 * limit) words ≡ drop 3 words = read-written rows words limit (omega arith) in
+    let rows-stand : r ++ drop (3 + 4 * limit) words ≡ drop 3 words = read-written (rows 3) words limit (omega arith) in
     let same : accountStart limit 0 ≡ 3 + 4 * limit = omega arith in
     let head : words ≡ getD words 0 0 ∷ getD words 1 0 ∷ getD words 2 0 ∷ drop 3 words =
     drop-cons words 0 0 (omega arith) ∙ ap (λ l. getD words 0 0 ∷ l) (drop-cons words 1 0 (omega arith) ∙ ap (λ l. getD words 1 0 ∷ l) (drop-cons words 2 0 (omega arith))) in
@@ -63,3 +65,25 @@ words-shaped limit words = record {
 
 pub state-written-back : State-written-back
 state-written-back limit words e = written-back limit words (eqb-true (length words) (wordCount limit) e)
+
+-- ---- a table and its numbers
+
+pub numbers-read-back : Numbers-read-back
+unfolding allNumbers numbersTable rows
+numbers-read-back limit t long =
+    let rs = joined rowNumbers (t .requestors) in
+    let head = t .denominator ∷ t .count ∷ [] in
+    let back = written-read (rows 2) (allNumbers t) (t .requestors) 0 head [] refl (ap (λ l. head ++ l) (sym (append-nil rs))) in
+    let all : length (allNumbers t) ≡ numberCount limit = omega (arith, length-rows (t .requestors)) in
+    (eq-eqb (length (allNumbers t)) (numberCount limit) all, rw (rw long at back))
+
+pub table-written-back : Table-written-back
+unfolding allNumbers numbersTable rows
+table-written-back limit numbers e =
+    let long = eqb-true (length numbers) (numberCount limit) e in
+    let rs = joined rowNumbers (numbersTable limit numbers .requestors) in
+    let none : drop (numberCount limit) numbers ≡ [] = drop-of-length-le numbers {i = numberCount limit} (omega arith) in
+    let rows-stand : rs ++ drop (numberCount limit) numbers ≡ drop 2 numbers = read-written (rows 2) numbers limit (omega arith) in
+    let head : numbers ≡ getD numbers 0 0 ∷ getD numbers 1 0 ∷ drop 2 numbers =
+    drop-cons numbers 0 0 (omega arith) ∙ ap (λ l. getD numbers 0 0 ∷ l) (drop-cons numbers 1 0 (omega arith)) in
+    ap (λ l. getD numbers 0 0 ∷ getD numbers 1 0 ∷ l) (sym (append-nil rs) ∙ ap (λ l. rs ++ l) (sym none) ∙ rows-stand) ∙ sym head

@@ -18,32 +18,37 @@ use Rattle.calls.specs.Rule.{eligible, later, firstEligible, served, passed, af
 use Rattle.calls.specs.Calls.{grantOf, advanced, withCount, withPost, done, ruleVerdict, called}
 use Rattle.calls.specs.Log.{slotsState, slotsLog, slotsVerdict, runVerdict, run}
 use Rattle.boundary.specs.Words.{stateWords, placesFrom, wordsState}
-use Rattle.boundary.specs.Boundary.{refusalCode, onState, posted, begun, started, slotted, ran, figured, led, wrote}
-use Rattle.boundary.specs.Rows.{twoPlaces, rated, startRows, postRows, slotRows, runRows, askedRows, writeRows, Pass, All-pass}
+use Rattle.boundary.specs.Numbers.{numbersTable}
+use Rattle.boundary.specs.Boundary.{refusalCode, onState, posted, begun, leaves, started, startedOf, slotted, ran, figured, led, wrote}
+use Rattle.boundary.specs.Rows.{twoPlaces, rated, startRows, numberRows, postRows, slotRows, runRows, askedRows, writeRows, Pass, All-pass}
 
 start-pass : Pass startRows
-unfolding total joined every upTo writtenOver lastGroup combined laterGroups numberOf groupsOf numberBytes gate then tableOf heldTo rowVerdict eachPlace tailVerdict rateSumVerdict tableVerdict roundedUp finish finishVerdict admissionVerdict accountsHold sound placeVerdict opening noState startVerdict start figuresVerdict figures inputVerdict leadOf leadVerdict leadAsked next fieldRead rowRead itemsRead placesRead numbersRead lastVerdict settled readTable tableNumbers tableBytes writeVerdict writeTable eligible later firstEligible served passed after grantOf advanced withCount withPost done ruleVerdict called slotsState slotsLog slotsVerdict runVerdict run stateWords placesFrom wordsState refusalCode onState posted begun started slotted ran figured led wrote twoPlaces rated startRows
+unfolding total joined every upTo writtenOver lastGroup combined laterGroups numberOf groupsOf numberBytes gate then tableOf heldTo rowVerdict eachPlace tailVerdict rateSumVerdict tableVerdict roundedUp finish finishVerdict admissionVerdict accountsHold sound placeVerdict opening noState startVerdict start figuresVerdict figures inputVerdict leadOf leadVerdict leadAsked next fieldRead rowRead itemsRead placesRead numbersRead lastVerdict settled readTable tableNumbers tableBytes writeVerdict writeTable eligible later firstEligible served passed after grantOf advanced withCount withPost done ruleVerdict called slotsState slotsLog slotsVerdict runVerdict run stateWords placesFrom wordsState refusalCode onState posted begun leaves started slotted ran figured led wrote twoPlaces rated startRows
 start-pass = refl
 
+number-pass : Pass numberRows
+unfolding total joined every upTo writtenOver lastGroup combined laterGroups numberOf groupsOf numberBytes gate then tableOf heldTo rowVerdict eachPlace tailVerdict rateSumVerdict tableVerdict roundedUp finish finishVerdict admissionVerdict accountsHold sound placeVerdict opening noState startVerdict start figuresVerdict figures inputVerdict leadOf leadVerdict leadAsked next fieldRead rowRead itemsRead placesRead numbersRead lastVerdict settled readTable tableNumbers tableBytes writeVerdict writeTable eligible later firstEligible served passed after grantOf advanced withCount withPost done ruleVerdict called slotsState slotsLog slotsVerdict runVerdict run stateWords placesFrom wordsState refusalCode onState posted numbersTable leaves startedOf slotted ran figured led wrote twoPlaces rated numberRows
+number-pass = refl
+
 post-pass : Pass postRows
-unfolding total joined every upTo writtenOver lastGroup combined laterGroups numberOf groupsOf numberBytes gate then tableOf heldTo rowVerdict eachPlace tailVerdict rateSumVerdict tableVerdict roundedUp finish finishVerdict admissionVerdict accountsHold sound placeVerdict opening noState startVerdict start figuresVerdict figures inputVerdict leadOf leadVerdict leadAsked next fieldRead rowRead itemsRead placesRead numbersRead lastVerdict settled readTable tableNumbers tableBytes writeVerdict writeTable eligible later firstEligible served passed after grantOf advanced withCount withPost done ruleVerdict called slotsState slotsLog slotsVerdict runVerdict run stateWords placesFrom wordsState refusalCode onState posted begun started slotted ran figured led wrote twoPlaces rated postRows
+unfolding total joined every upTo writtenOver lastGroup combined laterGroups numberOf groupsOf numberBytes gate then tableOf heldTo rowVerdict eachPlace tailVerdict rateSumVerdict tableVerdict roundedUp finish finishVerdict admissionVerdict accountsHold sound placeVerdict opening noState startVerdict start figuresVerdict figures inputVerdict leadOf leadVerdict leadAsked next fieldRead rowRead itemsRead placesRead numbersRead lastVerdict settled readTable tableNumbers tableBytes writeVerdict writeTable eligible later firstEligible served passed after grantOf advanced withCount withPost done ruleVerdict called slotsState slotsLog slotsVerdict runVerdict run stateWords placesFrom wordsState refusalCode onState posted begun leaves started slotted ran figured led wrote twoPlaces rated postRows
 post-pass = refl
 
 slot-pass : Pass slotRows
-unfolding total joined every upTo writtenOver lastGroup combined laterGroups numberOf groupsOf numberBytes gate then tableOf heldTo rowVerdict eachPlace tailVerdict rateSumVerdict tableVerdict roundedUp finish finishVerdict admissionVerdict accountsHold sound placeVerdict opening noState startVerdict start figuresVerdict figures inputVerdict leadOf leadVerdict leadAsked next fieldRead rowRead itemsRead placesRead numbersRead lastVerdict settled readTable tableNumbers tableBytes writeVerdict writeTable eligible later firstEligible served passed after grantOf advanced withCount withPost done ruleVerdict called slotsState slotsLog slotsVerdict runVerdict run stateWords placesFrom wordsState refusalCode onState posted begun started slotted ran figured led wrote twoPlaces rated slotRows
+unfolding total joined every upTo writtenOver lastGroup combined laterGroups numberOf groupsOf numberBytes gate then tableOf heldTo rowVerdict eachPlace tailVerdict rateSumVerdict tableVerdict roundedUp finish finishVerdict admissionVerdict accountsHold sound placeVerdict opening noState startVerdict start figuresVerdict figures inputVerdict leadOf leadVerdict leadAsked next fieldRead rowRead itemsRead placesRead numbersRead lastVerdict settled readTable tableNumbers tableBytes writeVerdict writeTable eligible later firstEligible served passed after grantOf advanced withCount withPost done ruleVerdict called slotsState slotsLog slotsVerdict runVerdict run stateWords placesFrom wordsState refusalCode onState posted begun leaves started slotted ran figured led wrote twoPlaces rated slotRows
 slot-pass = refl
 
 run-pass : Pass runRows
-unfolding total joined every upTo writtenOver lastGroup combined laterGroups numberOf groupsOf numberBytes gate then tableOf heldTo rowVerdict eachPlace tailVerdict rateSumVerdict tableVerdict roundedUp finish finishVerdict admissionVerdict accountsHold sound placeVerdict opening noState startVerdict start figuresVerdict figures inputVerdict leadOf leadVerdict leadAsked next fieldRead rowRead itemsRead placesRead numbersRead lastVerdict settled readTable tableNumbers tableBytes writeVerdict writeTable eligible later firstEligible served passed after grantOf advanced withCount withPost done ruleVerdict called slotsState slotsLog slotsVerdict runVerdict run stateWords placesFrom wordsState refusalCode onState posted begun started slotted ran figured led wrote twoPlaces rated runRows
+unfolding total joined every upTo writtenOver lastGroup combined laterGroups numberOf groupsOf numberBytes gate then tableOf heldTo rowVerdict eachPlace tailVerdict rateSumVerdict tableVerdict roundedUp finish finishVerdict admissionVerdict accountsHold sound placeVerdict opening noState startVerdict start figuresVerdict figures inputVerdict leadOf leadVerdict leadAsked next fieldRead rowRead itemsRead placesRead numbersRead lastVerdict settled readTable tableNumbers tableBytes writeVerdict writeTable eligible later firstEligible served passed after grantOf advanced withCount withPost done ruleVerdict called slotsState slotsLog slotsVerdict runVerdict run stateWords placesFrom wordsState refusalCode onState posted begun leaves started slotted ran figured led wrote twoPlaces rated runRows
 run-pass = refl
 
 asked-pass : Pass askedRows
-unfolding total joined every upTo writtenOver lastGroup combined laterGroups numberOf groupsOf numberBytes gate then tableOf heldTo rowVerdict eachPlace tailVerdict rateSumVerdict tableVerdict roundedUp finish finishVerdict admissionVerdict accountsHold sound placeVerdict opening noState startVerdict start figuresVerdict figures inputVerdict leadOf leadVerdict leadAsked next fieldRead rowRead itemsRead placesRead numbersRead lastVerdict settled readTable tableNumbers tableBytes writeVerdict writeTable eligible later firstEligible served passed after grantOf advanced withCount withPost done ruleVerdict called slotsState slotsLog slotsVerdict runVerdict run stateWords placesFrom wordsState refusalCode onState posted begun started slotted ran figured led wrote twoPlaces rated askedRows
+unfolding total joined every upTo writtenOver lastGroup combined laterGroups numberOf groupsOf numberBytes gate then tableOf heldTo rowVerdict eachPlace tailVerdict rateSumVerdict tableVerdict roundedUp finish finishVerdict admissionVerdict accountsHold sound placeVerdict opening noState startVerdict start figuresVerdict figures inputVerdict leadOf leadVerdict leadAsked next fieldRead rowRead itemsRead placesRead numbersRead lastVerdict settled readTable tableNumbers tableBytes writeVerdict writeTable eligible later firstEligible served passed after grantOf advanced withCount withPost done ruleVerdict called slotsState slotsLog slotsVerdict runVerdict run stateWords placesFrom wordsState refusalCode onState posted begun leaves started slotted ran figured led wrote twoPlaces rated askedRows
 asked-pass = refl
 
 write-pass : Pass writeRows
-unfolding total joined every upTo writtenOver lastGroup combined laterGroups numberOf groupsOf numberBytes gate then tableOf heldTo rowVerdict eachPlace tailVerdict rateSumVerdict tableVerdict roundedUp finish finishVerdict admissionVerdict accountsHold sound placeVerdict opening noState startVerdict start figuresVerdict figures inputVerdict leadOf leadVerdict leadAsked next fieldRead rowRead itemsRead placesRead numbersRead lastVerdict settled readTable tableNumbers tableBytes writeVerdict writeTable eligible later firstEligible served passed after grantOf advanced withCount withPost done ruleVerdict called slotsState slotsLog slotsVerdict runVerdict run stateWords placesFrom wordsState refusalCode onState posted begun started slotted ran figured led wrote twoPlaces rated writeRows
+unfolding total joined every upTo writtenOver lastGroup combined laterGroups numberOf groupsOf numberBytes gate then tableOf heldTo rowVerdict eachPlace tailVerdict rateSumVerdict tableVerdict roundedUp finish finishVerdict admissionVerdict accountsHold sound placeVerdict opening noState startVerdict start figuresVerdict figures inputVerdict leadOf leadVerdict leadAsked next fieldRead rowRead itemsRead placesRead numbersRead lastVerdict settled readTable tableNumbers tableBytes writeVerdict writeTable eligible later firstEligible served passed after grantOf advanced withCount withPost done ruleVerdict called slotsState slotsLog slotsVerdict runVerdict run stateWords placesFrom wordsState refusalCode onState posted begun leaves started slotted ran figured led wrote twoPlaces rated writeRows
 write-pass = refl
 
 pub all-pass : All-pass
-all-pass = (start-pass, post-pass, slot-pass, run-pass, asked-pass, write-pass)
+all-pass = (start-pass, number-pass, post-pass, slot-pass, run-pass, asked-pass, write-pass)

@@ -1,33 +1,36 @@
 -- The words of a state: its rows and its accounts as items, and how many words they are. Assumes nothing.
 use mathlib.Core.Path.{_≡_, refl}
-use mathlib.Core.List.{List, [], _∷_, _++_}
+use mathlib.Core.List.{List, _∷_, _++_}
 use Prim.Native.Nat.{ℕ, suc, _+_, _*_}
 use native.Mathlib.Omega.{arith}
 use lib.ListN.{length, length-append}
 use lib.Seq.{drop-cons, getD-append-seam, getD-append-add}
 use Rattle.lists.specs.Sums.{joined}
+use Rattle.lists.proofs.Sums.{length-joined-same}
 use Rattle.arbiter.specs.declared.table.Requestor.{Requestor}
 use Rattle.arbiter.specs.declared.state.Account.{Account}
 use Rattle.arbiter.specs.declared.state.Arbiter.{Arbiter}
 use Rattle.arbiter.specs.State.{Shaped}
-use Rattle.boundary.specs.Words.{rowWords, accountWords, stateWords, rowStart, accountStart, wordCount, rowFrom, accountFrom}
+use Rattle.arbiter.specs.Table.{rowNumbers}
+use Rattle.boundary.specs.Words.{accountWords, stateWords, accountStart, wordCount, rowFrom, accountFrom}
 use Rattle.boundary.proofs.Items.{Items}
 
 -- ---- rows and accounts as items
 
-unfoldable pub rows : Items Requestor
-rows = record {
+-- rows that begin behind so many words
+unfoldable pub rows : (front : ℕ) → Items Requestor
+rows k = record {
   width = 4;
-  write = rowWords;
+  write = rowNumbers;
   read = rowFrom;
-  at = rowStart;
+  at = λ p. k + 4 * p;
   next = λ p. omega arith;
   wide = λ r. refl;
   read-write = λ r front rest. rw (
     getD-append-seam front (r .rate) (r .burst ∷ r .need .0 ∷ r .within .0 ∷ rest) 0,
-    getD-append-add front (rowWords r ++ rest) 1 0,
-    getD-append-add front (rowWords r ++ rest) 2 0,
-    getD-append-add front (rowWords r ++ rest) 3 0,
+    getD-append-add front (rowNumbers r ++ rest) 1 0,
+    getD-append-add front (rowNumbers r ++ rest) 2 0,
+    getD-append-add front (rowNumbers r ++ rest) 3 0,
   );
   write-read = λ words k h.
       let one : k + 1 ≡ suc k = omega arith in
@@ -66,15 +69,11 @@ accounts limit = record {
 
 -- ---- how many words
 
-pub length-rows : (rs : List Requestor) → length (joined rowWords rs) ≡ 4 * length rs
-unfolding joined
-length-rows [] = refl
-length-rows (r ∷ rs) = omega (arith, length-rows rs)
+pub length-rows : (rs : List Requestor) → length (joined rowNumbers rs) ≡ 4 * length rs
+length-rows = length-joined-same rowNumbers 4 (λ r. refl)
 
 pub length-accounts : (xs : List Account) → length (joined accountWords xs) ≡ 2 * length xs
-unfolding joined
-length-accounts [] = refl
-length-accounts (a ∷ xs) = omega (arith, length-accounts xs)
+length-accounts = length-joined-same accountWords 2 (λ a. refl)
 
 pub length-state : (limit : ℕ) (s : Arbiter) → Shaped limit s → length (stateWords s) ≡ wordCount limit
 unfolding stateWords

@@ -1,5 +1,5 @@
 -- What each call for firmware does to the memory that is lent to it, and its outcome, one number. Document 01's refusals keep their
--- numbers; the boundary adds only 255, for a lent state or answer of a wrong length, ahead of all else. `limit` is the largest N throughout.
+-- numbers; the boundary adds only 255, for a lent state, answer or table of numbers of a wrong length, ahead of all else. `limit` is the largest N throughout.
 use mathlib.Core.Bool.{Bool, true, _&&_}
 use mathlib.Core.List.{List, [], _∷_}
 use Prim.Native.Nat.{ℕ, _+_, _*_}
@@ -23,6 +23,7 @@ use Rattle.table_bytes.specs.Writing as writing
 use Rattle.calls.specs.Calls.{post, slot, called}
 use Rattle.calls.specs.Log.{Outcome, run}
 use Rattle.boundary.specs.Words.{stateWords, wordsState, rightLength}
+use Rattle.boundary.specs.Numbers.{numbersTable, rightNumbers}
 
 -- ---- outcomes
 
@@ -69,11 +70,17 @@ unfoldable pub begun : ℕ → TableRead → (first : ℕ) → Result Arbiter An
 begun limit t first =
     unless (t .answer) (λ r. record { state = noState limit; answer = refused r }) (start limit (t .table) first)
 
+-- what a start leaves in the lent words, or what comes of a wrong length
+unfoldable pub leaves : (lengths : Bool) → (words : List ℕ) → Result Arbiter Answer → Stated
+leaves lengths words begun = pick lengths (stated begun) (record { words = words; outcome = wrongLength })
+
 unfoldable pub started : ℕ → (bytes : List ℕ) → (first : ℕ) → (words : List ℕ) → Stated
-started limit bytes first words =
-    pick (rightLength limit words)
-    (stated (begun limit (readTable limit bytes) first))
-    (record { words = words; outcome = wrongLength })
+started limit bytes first words = leaves (rightLength limit words) words (begun limit (readTable limit bytes) first)
+
+-- a start from a table given as numbers
+unfoldable pub startedOf : ℕ → (numbers : List ℕ) → (first : ℕ) → (words : List ℕ) → Stated
+startedOf limit numbers first words =
+    leaves (rightLength limit words && rightNumbers limit numbers) words (start limit (numbersTable limit numbers) first)
 
 pub record Slotted : Type 0 where
   pub words : List ℕ

@@ -10,8 +10,10 @@ use lib.IntN.{ℤ}
 use lib.ListN.{length, replicate}
 use Rattle.lists.specs.Runs.{Result, end, answers}
 use Rattle.arbiter.specs.declared.state.Arbiter.{Arbiter}
+use Rattle.arbiter.specs.declared.table.Table.{Table}
 use Rattle.arbiter.specs.Answers.{Answer}
 use Rattle.arbiter.specs.State.{sound, Shaped}
+use Rattle.arbiter.specs.Start.{start}
 use Rattle.arbiter.specs.Asked as asked
 use Rattle.leads.specs.Lead as leads
 use Rattle.table_bytes.specs.Reading.{readTable}
@@ -19,13 +21,20 @@ use Rattle.table_bytes.specs.Writing as writing
 use Rattle.calls.specs.Calls.{Call, post, slot, called}
 use Rattle.calls.specs.Log.{run}
 use Rattle.boundary.specs.Words.{stateWords, wordCount, wordsState, rightLength}
-use Rattle.boundary.specs.Boundary.{answerCode, wrongLength, stated, posted, begun, started, slotWords, slotStated, slotted, runStated, ran, figuresTold, figured, leadTold, led, writeTold, wrote}
+use Rattle.boundary.specs.Numbers.{allNumbers, numbersTable, rightNumbers}
+use Rattle.boundary.specs.Boundary.{answerCode, wrongLength, Stated, stated, posted, begun, started, startedOf, slotWords, slotStated, slotted, runStated, ran, figuresTold, figured, leadTold, led, writeTold, wrote}
 
 -- ---- one call
 
 abbrev pub Post-by-value : Type 0
 Post-by-value =
     (limit : ℕ) (s : Arbiter) (p count : ℕ) → Shaped limit s → posted limit (stateWords s) p count ≡ stated (called limit s (post p count))
+
+-- a start from a table's numbers is the start of the table
+abbrev pub Start-by-value : Type 0
+Start-by-value =
+    (limit : ℕ) (t : Table) (first : ℕ) (words : List ℕ) → length (t .requestors) ≡ limit → rightLength limit words ≡ true
+    → startedOf limit (allNumbers t) first words ≡ stated (start limit t first)
 
 -- `old` is the lent answer; one of a wrong length is 255
 abbrev pub Slot-by-value : Type 0
@@ -83,18 +92,23 @@ In-a-row =
     (end (lentCall limit) lent calls ≡ record { words = stateWords (end (called limit) s calls); answer = lastTold old heard })
     × (answers (lentCall limit) lent calls ≡ map answerCode heard)
 
--- the state whose words a start leaves, whatever the bytes, is one that the claims above hold for
+-- the state whose words a start leaves, whatever the bytes or the numbers, is one that the claims above hold for
 abbrev pub Start-shaped : Type 0
 Start-shaped = (limit : ℕ) (bytes : List ℕ) (first : ℕ) → Shaped limit (begun limit (readTable limit bytes) first .state)
 
+abbrev pub Start-of-numbers-shaped : Type 0
+Start-of-numbers-shaped = (limit : ℕ) (numbers : List ℕ) (first : ℕ) → Shaped limit (start limit (numbersTable limit numbers) first .state)
+
 -- ---- 255 and 23
 
--- 255 is the outcome exactly where the lent words, or the lent answer, have a wrong length
+-- 255 is the outcome exactly where the lent words, the lent answer or the numbers have a wrong length
 abbrev pub Exactly-255 : (lengths : Bool) → (outcome : ℕ) → Type 0
 Exactly-255 lengths outcome = (lengths ≡ false → outcome ≡ wrongLength) × (outcome ≡ wrongLength → lengths ≡ false)
 
 pub record Lengths (limit : ℕ) (words : List ℕ) : Type 0 where
   pub start : (bytes : List ℕ) (first : ℕ) → Exactly-255 (rightLength limit words) (started limit bytes first words .outcome)
+  pub numbers : (numbers : List ℕ) (first : ℕ)
+      → Exactly-255 (rightLength limit words && rightNumbers limit numbers) (startedOf limit numbers first words .outcome)
   pub post : (p count : ℕ) → Exactly-255 (rightLength limit words) (posted limit words p count .outcome)
   pub slot : (old : List ℕ) → Exactly-255 (rightLength limit words && eqb (length old) 2) (slotted limit words old .outcome)
   pub run : (log : List ℕ) → Exactly-255 (rightLength limit words) (ran limit words log .outcome)
@@ -153,8 +167,13 @@ Write-refused =
     Refused (r .outcome) → (r .buffer ≡ buffer) × (r .answer ≡ old)
 
 -- a refused start clears the words; 255 leaves them as they were
-abbrev pub Start-refused : Type 0
-Start-refused =
-    (limit : ℕ) (bytes : List ℕ) (first : ℕ) (words : List ℕ) → let r = started limit bytes first words in
+abbrev pub Clears : (limit : ℕ) → (words : List ℕ) → Stated → Type 0
+Clears limit words r =
     (Refused (r .outcome) → (r .outcome ≡ wrongLength → ⊥) → r .words ≡ replicate (wordCount limit) 0)
     × (r .outcome ≡ wrongLength → r .words ≡ words)
+
+abbrev pub Start-refused : Type 0
+Start-refused = (limit : ℕ) (bytes : List ℕ) (first : ℕ) (words : List ℕ) → Clears limit words (started limit bytes first words)
+
+abbrev pub Start-of-numbers-refused : Type 0
+Start-of-numbers-refused = (limit : ℕ) (numbers : List ℕ) (first : ℕ) (words : List ℕ) → Clears limit words (startedOf limit numbers first words)

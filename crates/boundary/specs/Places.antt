@@ -12,6 +12,7 @@ use Rattle.arbiter.specs.declared.state.Arbiter.{Arbiter}
 use Rattle.arbiter.specs.declared.table.Table.{Table}
 use Rattle.arbiter.specs.Refusals.{originOf}
 use Rattle.arbiter.specs.Answers.{refused}
+use Rattle.arbiter.specs.Start.{start}
 use Rattle.arbiter.specs.Asked as asked
 use Rattle.leads.specs.Lead as leads
 use Rattle.table_bytes.specs.Reading.{readTable}
@@ -43,6 +44,9 @@ Code-apart = (limit : ℕ) (r : Refusal) → Told limit r → (refusalCode r ≡
 abbrev pub Start-names-below : Type 0
 Start-names-below =
     (limit : ℕ) (bytes : List ℕ) (first : ℕ) (r : Refusal) → begun limit (readTable limit bytes) first .answer ≡ refused r → Told limit r
+
+abbrev pub Start-of-numbers-names-below : Type 0
+Start-of-numbers-names-below = (limit : ℕ) (t : Table) (first : ℕ) (r : Refusal) → start limit t first .answer ≡ refused r → Told limit r
 
 -- a post or a slot
 abbrev pub Calls-name-below : Type 0

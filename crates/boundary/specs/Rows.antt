@@ -7,7 +7,7 @@ use lib.IntN.{ℤ, pos, negsuc}
 use lib.ListN.{replicate}
 use Rattle.arbiter.specs.Limits.{maxPlaces, maxSlot}
 use Rattle.boundary.specs.Words.{wordCount}
-use Rattle.boundary.specs.Boundary.{Stated, started, posted, Slotted, slotted, Ran, ran, Figured, figured, Led, led, Wrote, wrote}
+use Rattle.boundary.specs.Boundary.{Stated, started, startedOf, posted, Slotted, slotted, Ran, ran, Figured, figured, Led, led, Wrote, wrote}
 
 -- ---- words
 
@@ -48,6 +48,14 @@ nineSlots = 0 ∷ 0 ∷ 1 ∷ 0 ∷ 1 ∷ 255 ∷ 255 ∷ 1 ∷ 255 ∷ []
 abbrev pub bytesT : (last : ℕ) → List ℕ
 bytesT last = 4 ∷ 2 ∷ 1 ∷ 8 ∷ 1 ∷ 4 ∷ 1 ∷ 4 ∷ 1 ∷ last ∷ []
 
+-- T's numbers with this L at place 1, and these past its two places
+abbrev pub numbersT : (within : ℕ) → (past : List ℕ) → List ℕ
+numbersT within past = 4 ∷ 2 ∷ 1 ∷ 8 ∷ 1 ∷ 4 ∷ 1 ∷ 4 ∷ 1 ∷ within ∷ past
+
+-- the numbers past T's two places
+abbrev pub pastT : ℕ
+pastT = 4 * (maxPlaces - 2)
+
 -- ---- rows
 
 pub data After : Type 0 where
@@ -65,6 +73,12 @@ pub record Row : Type 0 where
 abbrev pub starting : (bytes : List ℕ) (first : ℕ) (words : List ℕ) → (after : List ℕ) (outcome : ℕ) → Row
 starting bytes first words after o = record {
   asked = stated-as (started maxPlaces bytes first words);
+  written = stated-as (record { words = after; outcome = o });
+}
+
+abbrev pub numbering : (numbers : List ℕ) (first : ℕ) (words : List ℕ) → (after : List ℕ) (outcome : ℕ) → Row
+numbering numbers first words after o = record {
+  asked = stated-as (startedOf maxPlaces numbers first words);
   written = stated-as (record { words = after; outcome = o });
 }
 
@@ -116,6 +130,21 @@ startRows =
     -- one word fewer or more is 255, ahead of all else, and the words stay
     ∷ starting (bytesT 7) 0 (unused (wordCount maxPlaces - 1)) (unused (wordCount maxPlaces - 1)) 255
     ∷ starting [] 0 (unused (wordCount maxPlaces + 1)) (unused (wordCount maxPlaces + 1)) 255
+    ∷ []
+
+unfoldable pub numberRows : List Row
+numberRows =
+    -- T's numbers are T; case 2's L is refused 7 at place 1, and a number past T's two places 2, whatever field it is
+    numbering (numbersT 7 (replicate pastT 0)) 0 (unused (wordCount maxPlaces)) fresh 0
+    ∷ numbering (numbersT 6 (replicate pastT 0)) 0 (unused (wordCount maxPlaces)) (replicate (wordCount maxPlaces) 0) 519
+    ∷ numbering (numbersT 7 (replicate (pastT - 1) 0 ++ 1 ∷ [])) 0 (unused (wordCount maxPlaces)) (replicate (wordCount maxPlaces) 0) 2
+    -- 7 is ahead of 12
+    ∷ numbering (numbersT 7 (replicate pastT 0)) (maxSlot + 1) (unused (wordCount maxPlaces)) (replicate (wordCount maxPlaces) 0) 12
+    ∷ numbering (numbersT 6 (replicate pastT 0)) (maxSlot + 1) (unused (wordCount maxPlaces)) (replicate (wordCount maxPlaces) 0) 519
+    -- one number fewer or more, or one word fewer, is 255, and the words stay
+    ∷ numbering (numbersT 7 (replicate (pastT - 1) 0)) 0 (unused (wordCount maxPlaces)) (unused (wordCount maxPlaces)) 255
+    ∷ numbering (numbersT 7 (replicate (pastT + 1) 0)) 0 (unused (wordCount maxPlaces)) (unused (wordCount maxPlaces)) 255
+    ∷ numbering (numbersT 7 (replicate pastT 0)) 0 (unused (wordCount maxPlaces - 1)) (unused (wordCount maxPlaces - 1)) 255
     ∷ []
 
 unfoldable pub postRows : List Row
@@ -192,4 +221,4 @@ abbrev pub Pass : List Row → Type 0
 Pass rows = map (λ r. r .asked) rows ≡ map (λ r. r .written) rows
 
 abbrev pub All-pass : Type 0
-All-pass = Pass startRows × Pass postRows × Pass slotRows × Pass runRows × Pass askedRows × Pass writeRows
+All-pass = Pass startRows × Pass numberRows × Pass postRows × Pass slotRows × Pass runRows × Pass askedRows × Pass writeRows

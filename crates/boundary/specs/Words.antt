@@ -1,6 +1,5 @@
 -- The state as words, one to each field. The order is D, N, the slot number, then rate, burst, need and within of each place, then
 -- credit and backlog of each place.
-use mathlib.Core.Path.{_≡_}
 use mathlib.Core.Bool.{Bool}
 use mathlib.Core.List.{List, [], _∷_, _++_}
 use Prim.Native.Nat.{ℕ, zero, suc, _+_, _*_}
@@ -10,11 +9,9 @@ use Rattle.lists.specs.Sums.{joined}
 use Rattle.arbiter.specs.declared.table.Requestor.{Requestor}
 use Rattle.arbiter.specs.declared.state.Account.{Account}
 use Rattle.arbiter.specs.declared.state.Arbiter.{Arbiter}
+use Rattle.arbiter.specs.Table.{rowNumbers}
 
 -- ---- from a state to its words
-
-abbrev pub rowWords : Requestor → List ℕ
-rowWords r = r .rate ∷ r .burst ∷ r .need .0 ∷ r .within .0 ∷ []
 
 abbrev pub accountWords : Account → List ℕ
 accountWords a = a .credit ∷ a .backlog .0 ∷ []
@@ -23,7 +20,7 @@ abbrev pub headWords : Arbiter → List ℕ
 headWords s = s .table .denominator ∷ s .table .count ∷ s .slot .0 ∷ []
 
 unfoldable pub stateWords : Arbiter → List ℕ
-stateWords s = (headWords s ++ joined rowWords (s .table .requestors)) ++ joined accountWords (s .accounts)
+stateWords s = (headWords s ++ joined rowNumbers (s .table .requestors)) ++ joined accountWords (s .accounts)
 
 -- ---- where a place's row and account start; `limit` is the largest N
 

@@ -3,7 +3,9 @@
 
 mod fits;
 mod lent;
+mod numbers;
 pub mod questions;
 mod reading;
+pub mod starts;
 pub mod states;
 mod writing;

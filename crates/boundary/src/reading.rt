@@ -3,8 +3,10 @@ use crate::fits::ACCOUNTS_AT;
 use crate::fits::ROWS_AT;
 use arbiter::state::Account;
 use arbiter::state::Arbiter;
+use arbiter::state::no_account;
 use arbiter::table::Requestor;
 use arbiter::table::Table;
+use arbiter::table::no_requestor;
 use arbiter::units::Slots;
 use arbiter::units::Transfers;
 ghost use mathlib.Core.Path.{_≡_};
@@ -42,12 +44,7 @@ fn rows_of(words: &[u64]) -> [Requestor; Arbiter::MAX_PLACES]
     requires { ⌜ (length (now words) ≡ wordCount maxPlaces) × (every rowFits (wordsRows maxPlaces (now words)) ≡ true) ⌝ }
     ensures { λ r. ⌜ r ≡ wordsRows maxPlaces (now (words .entry)) ⌝ }
 {
-    let none = Requestor {
-        rate: 0,
-        burst: 0,
-        need: Transfers(0),
-        within: Slots(0),
-    };
+    let none = no_requestor();
     let mut rows = [none; Arbiter::MAX_PLACES];
     let mut p: usize = 0;
     while p < Arbiter::MAX_PLACES {
@@ -61,10 +58,7 @@ fn accounts_of(words: &[u64]) -> [Account; Arbiter::MAX_PLACES]
     requires { ⌜ (length (now words) ≡ wordCount maxPlaces) × (every accountFits (wordsAccounts maxPlaces (now words)) ≡ true) ⌝ }
     ensures { λ r. ⌜ r ≡ wordsAccounts maxPlaces (now (words .entry)) ⌝ }
 {
-    let none = Account {
-        credit: 0,
-        backlog: Transfers(0),
-    };
+    let none = no_account();
     let mut accounts = [none; Arbiter::MAX_PLACES];
     let mut p: usize = 0;
     while p < Arbiter::MAX_PLACES {

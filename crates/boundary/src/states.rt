@@ -1,16 +1,10 @@
-// The exported calls that make or change a state: start, post, slot and run.
+// The exported calls that change a state: post, slot and run.
 use crate::fits::STATE_WORDS;
-use crate::lent::WRONG_LENGTH;
 use crate::lent::check_lent;
 use crate::lent::put_two;
 use crate::lent::refusal_code;
 use crate::reading::state_of;
 use crate::writing::put_state;
-use arbiter::start::StartAnswer;
-use arbiter::start::StartResult;
-use arbiter::start::no_state;
-use arbiter::state::Arbiter;
-use arbiter::units::Slots;
 use arbiter::units::Transfers;
 use calls::post::PostAnswer;
 use calls::post::post;
@@ -18,14 +12,10 @@ use calls::run::RunAnswer;
 use calls::run::run;
 use calls::slot::SlotAnswer;
 use calls::slot::slot;
-use table_bytes::reader::ReadAnswer;
-use table_bytes::reader::read_table;
 ghost use mathlib.Core.Path.{_≡_};
 ghost use Rattle.arbiter.specs.Limits.{maxPlaces};
-ghost use Rattle.arbiter.specs.Start.{startResultOf};
-ghost use Rattle.table_bytes.specs.Reading.{readTable};
 ghost use Rattle.boundary.specs.Words.{wordCount};
-ghost use Rattle.boundary.specs.Boundary.{begun, started, posted, slotted, ran};
+ghost use Rattle.boundary.specs.Boundary.{posted, slotted, ran};
 
 // How many words a state has.
 #[no_mangle]
@@ -33,40 +23,6 @@ pub extern "C" fn justrave_state_words() -> usize
     ensures { λ r. ⌜ r ≡ wordCount maxPlaces ⌝ }
 {
     STATE_WORDS
-}
-
-// A table's bytes are read, and the table starts.
-fn begin(table: &[u8], first: Slots) -> StartResult
-    ensures { λ r. ⌜ startResultOf r ≡ begun maxPlaces (readTable maxPlaces (now (table .entry))) (first .0) ⌝ }
-{
-    let read = read_table(table);
-    let t = read.table;
-    let answer = read.answer;
-    match answer {
-        ReadAnswer::Accepted => Arbiter::start(t, first),
-        ReadAnswer::Refused(c) => StartResult {
-            state: no_state(),
-            answer: StartAnswer::Refused(c),
-        },
-    }
-}
-
-// The state of a table's bytes and a first slot number. Refused, every word is 0: 255 alone leaves them as they were.
-#[no_mangle]
-pub extern "C" fn justrave_start(table: &[u8], first: u64, state: &mut [u64]) -> u64
-    ensures { λ r. ⌜ record { words = now (state .exit); outcome = r } ≡ started maxPlaces (now (table .entry)) first (now (state .entry)) ⌝ }
-{
-    if state.len() != STATE_WORDS {
-        return WRONG_LENGTH;
-    }
-    let begun = begin(table, Slots(first));
-    let next = begun.state;
-    let answer = begun.answer;
-    put_state(next, state);
-    match answer {
-        StartAnswer::Started => 0,
-        StartAnswer::Refused(c) => refusal_code(c),
-    }
 }
 
 // Refused: 255, 23, 11, 21.

@@ -9,12 +9,13 @@ ghost use lib.ListN.{length};
 ghost use Rattle.lists.specs.Sums.{joined};
 ghost use Rattle.lists.specs.Overwriting.{writtenOver};
 ghost use Rattle.arbiter.specs.Limits.{maxPlaces};
-ghost use Rattle.boundary.specs.Words.{wordCount, rowWords, accountWords, stateWords};
+ghost use Rattle.arbiter.specs.Table.{rowNumbers};
+ghost use Rattle.boundary.specs.Words.{wordCount, accountWords, stateWords};
 
 // The rows' words, in the part of the words that begins with them.
 fn put_rows(t: Table, words: &mut [u64])
     requires { ⌜ 4 * maxPlaces ≤ length (now words) ⌝ }
-    ensures { λ _. ⌜ now (words .exit) ≡ writtenOver (joined rowWords (t .requestors)) (now (words .entry)) ⌝ }
+    ensures { λ _. ⌜ now (words .exit) ≡ writtenOver (joined rowNumbers (t .requestors)) (now (words .entry)) ⌝ }
 {
     let mut p: usize = 0;
     while p < Arbiter::MAX_PLACES {

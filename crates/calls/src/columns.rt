@@ -1,6 +1,7 @@
 // The numbers of the places in columns, which can be lent, so that slot after slot copies no state.
 use arbiter::state::Account;
 use arbiter::state::Arbiter;
+use arbiter::state::no_account;
 use arbiter::table::Requestor;
 use arbiter::units::Slots;
 use arbiter::units::Transfers;
@@ -65,11 +66,8 @@ pub(crate) fn accounts_of(credits: &[u32], backlogs: &[u32]) -> [Account; Arbite
     requires { ⌜ (length (now credits) ≡ maxPlaces) × (length (now backlogs) ≡ maxPlaces) ⌝ }
     ensures { λ r. ⌜ r ≡ accountsOf (now (credits .entry)) (now (backlogs .entry)) ⌝ }
 {
-    let empty = Account {
-        credit: 0,
-        backlog: Transfers(0),
-    };
-    let mut accounts = [empty; Arbiter::MAX_PLACES];
+    let none = no_account();
+    let mut accounts = [none; Arbiter::MAX_PLACES];
     let mut p: usize = 0;
     while p < Arbiter::MAX_PLACES {
         accounts[p] = account_at(credits, backlogs, p);

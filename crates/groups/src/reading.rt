@@ -16,12 +16,6 @@ const MAX_LATER: usize = 4;
 // The largest number that can have a group below it: the largest number of all, without its lowest group.
 const MAX_HIGH: u32 = 4294967295 / 128;
 
-fn wide(x: u8) -> u32
-    ensures { λ r. ⌜ r ≡ x ⌝ }
-{
-    x as u32
-}
-
 // The last of several groups is not 0: else a shorter form says the same.
 fn last_group(x: u32) -> Reading
     ensures { λ r. ⌜ r ≡ lastGroup x ⌝ }
@@ -60,7 +54,7 @@ fn later_groups(bytes: &[u8], left: usize) -> Reading
     if bytes.len() == 0 {
         return Reading::Ended;
     }
-    let x = wide(bytes[0]);
+    let x = bytes[0] as u32;
     if x < 128 {
         return last_group(x);
     }
@@ -75,7 +69,7 @@ pub fn read_number(bytes: &[u8]) -> Reading
     if bytes.len() == 0 {
         return Reading::Ended;
     }
-    let x = wide(bytes[0]);
+    let x = bytes[0] as u32;
     if x < 128 {
         return Reading::Number(x, 1);
     }

@@ -20,12 +20,6 @@ pub enum LeadAnswer {
     Refused(Cause),
 }
 
-fn wide(x: u8) -> usize
-    ensures { λ r. ⌜ r ≡ x ⌝ }
-{
-    x as usize
-}
-
 // The transfers that a log grants to place p: its bytes equal to p.
 fn count_grants(log: &[u8], p: usize) -> Transfers
     requires { ⌜ length (now log) ≤ maxInput ⌝ }
@@ -34,7 +28,7 @@ fn count_grants(log: &[u8], p: usize) -> Transfers
     let mut k: u32 = 0;
     let mut i: usize = 0;
     while i < log.len() {
-        let x = wide(log[i]);
+        let x = log[i] as usize;
         if x == p {
             k = k + 1;
         }

@@ -84,3 +84,9 @@ module _ {A B : Type 0} (f : A → List B) where
   unfolding joined total
   length-joined [] = refl
   length-joined (x ∷ xs) = omega (arith, length-append (f x) (joined f xs), length-joined xs)
+
+  -- as many for each element
+  pub length-joined-same : (k : ℕ) → ((x : A) → length (f x) ≡ k) → (xs : List A) → length (joined f xs) ≡ k * length xs
+  unfolding joined
+  length-joined-same k each [] = omega arith
+  length-joined-same k each (x ∷ xs) = simp length-append (omega (arith, each x, length-joined-same k each xs))

@@ -1,9 +1,7 @@
 -- `leads::count_grants` meets its contract. The loop's invariant, `Counted`: of the first i bytes, k are p. Assumes nothing.
 use mathlib.Core.Logic.{⊎-elim}
-use mathlib.Core.Path.{sym, _∙_}
 use Prim.Native.Nat.{_-_}
 use native.Mathlib.Omega.{arith}
-use borrow.Author.Needs.{needs}
 use lib.ListN.{length}
 use Rattle.leads.proofs.Counts.{Counted, counted-none, counted-same, counted-other, counted-all}
 use Rattle.leads.proofs.count_grants.Statement.{statement}
@@ -18,11 +16,11 @@ abbrev μ-loop : tie.MeasureT-loop
 loop-holds : tie.Need-loop-holds Inv-loop μ-loop
 loop-holds c = counted-none _ _
 
-shared-slice-read-wide : tie.Need-shared-slice-read-wide Inv-loop μ-loop
-shared-slice-read-wide c = omega arith
+shared-slice-read-x : tie.Need-shared-slice-read-x Inv-loop μ-loop
+shared-slice-read-x c = omega arith
 
-wide-requires : tie.Need-wide-requires Inv-loop μ-loop
-wide-requires c κs = search needs
+cast-x : tie.Need-cast-x Inv-loop μ-loop
+cast-x c = let narrow = c .shared-slice-known .given (c .before .before .loop .i) in omega (arith, narrow)
 
 add-k : tie.Need-add-k Inv-loop μ-loop
 add-k c = omega arith
@@ -35,12 +33,11 @@ loop-less c = omega arith
 
 loop-again : tie.Need-loop-again Inv-loop μ-loop
 loop-again c =
-    let l = c .before .before .before .before .loop in
-    let inside = c .before .before .before .loop-test .taken in
-    let read = c .before .wide .ensures in
+    let l = c .before .before .before .loop in
+    let inside = c .before .before .loop-test .taken in
     ⊎-elim
-    (λ w. rw (w .1) (counted-same (l .inv) inside (sym read ∙ w .0 .taken)))
-    (λ w. rw (w .1) (counted-other (l .inv) inside (λ e. w .0 .left (read ∙ e))))
+    (λ w. rw (w .1) (counted-same (l .inv) inside (w .0 .taken)))
+    (λ w. rw (w .1) (counted-other (l .inv) inside (w .0 .left)))
     (c .if1 .came)
 
 returns : tie.Need-returns Inv-loop μ-loop
@@ -53,8 +50,8 @@ count-grants-spec =
     Inv-loop
     μ-loop
     loop-holds
-    shared-slice-read-wide
-    wide-requires
+    shared-slice-read-x
+    cast-x
     add-k
     add-i
     loop-less

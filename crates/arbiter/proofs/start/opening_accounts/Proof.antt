@@ -4,6 +4,7 @@ use mathlib.Core.Path.{_≡_, refl, sym, _∙_}
 use mathlib.Core.List.{map, _++_}
 use Prim.Native.Nat.{_-_, _≤_}
 use native.Mathlib.Omega.{arith}
+use borrow.Author.Needs.{needs}
 use lib.ListN.{length, length-map, take, drop, List·getD-map}
 use Rattle.lists.proofs.Overwriting.{overwrite-more, overwrite-all}
 use Rattle.arbiter.specs.Limits.{maxPlaces}
@@ -23,6 +24,9 @@ abbrev μ-loop : tie.MeasureT-loop
 -- the rows of the table, and the accounts so far
 rows : (c : tie.Start Inv-loop μ-loop) → length (c .args .t1 .requestors) ≡ maxPlaces
 rows c = table-rows (c .args .t1) (c .good .0)
+
+no-account-requires : tie.Need-no-account-requires Inv-loop μ-loop
+no-account-requires c κs = search needs
 
 loop-holds : tie.Need-loop-holds Inv-loop μ-loop
 loop-holds c = (omega arith, refl, refl)
@@ -47,7 +51,7 @@ loop-less c = omega arith
 
 loop-again : tie.Need-loop-again Inv-loop μ-loop
 loop-again c =
-    let a = c .before .before .before in
+    let a = c .before .before .before .before in
     let l = c .before .before .loop in
     let rs = a .args .t1 .requestors in (
       omega arith,
@@ -57,7 +61,7 @@ loop-again c =
 
 returns : tie.Need-returns Inv-loop μ-loop
 returns c =
-    let a = c .before .before in
+    let a = c .before .before .before in
     let l = c .before .loop in
     let rs = a .args .t1 .requestors in
     l .inv .2 ∙ overwrite-all noAccount (map fresh rs) _ (l .p) (omega (arith, length-map rs fresh, rows a)) (omega (arith, l .inv .1))
@@ -68,6 +72,7 @@ opening-accounts-spec =
     (tie.spec
     Inv-loop
     μ-loop
+    no-account-requires
     loop-holds
     mul-r
     element-copy-out-r

@@ -1,17 +1,16 @@
 -- `arbiter::sums::sum_above` meets its contract. The sum for one place fewer, and the number of the place between. The measure is the
 -- place. Assumes nothing.
 use mathlib.Core.Path.{refl}
-use Prim.Native.Nat.{ℕ, _<_}
 use native.Mathlib.Omega.{arith}
 use borrow.Author.Needs.{needs}
-use borrow.Fn.Kinds.{In}
-use borrow.Fn.PlainCycle.{Measures, is, falls, and}
 use Rattle.lists.proofs.Sums.{total-take-pred}
 use Rattle.lists.specs.Sums.{total}
+use Prim.Native.Nat.{ℕ, _-_, _<_}
+use borrow.Fn.Kinds.{In}
+use borrow.Fn.PlainCycle.{Measures, is, falls, and}
 use Rattle.arbiter.proofs.sums.sum_above.Reads as sum-above
 use Rattle.arbiter.proofs.sums.sum_above.Kinds as sum-above-kinds
 use Rattle.arbiter.proofs.sums.+sum_above.Lts-sum_above as sum-above-lts
-use Rattle.arbiter.proofs.sums.wide.Reads as wide-reads
 use Rattle.arbiter.proofs.sums.+sum_above.{statement}
 use Rattle.arbiter.proofs.sums.+sum_above.Tie.{close}
 
@@ -25,88 +24,80 @@ abbrev sum-above-below : ℕ → In 1 sum-above-kinds.ps
 sum-above-below t =
     and 1 sum-above-kinds.ps (falls 1 sum-above-kinds.ps _<_ μ-sum-above t) sum-above.Pre
 
-sum-above-sub-q : (t : ℕ) → sum-above-lts.Need-sub-q (
-  sum-above-below t,
-  sum-above.Post,
-  wide-reads.Asked,
-  wide-reads.Learnt,
-) (sum-above-at t) sum-above.Post
+sum-above-sub-q :
+    (t : ℕ) →
+    sum-above-lts.Need-sub-q (sum-above-below t, sum-above.Post) (sum-above-at t) sum-above.Post
 sum-above-sub-q t c = search needs
 
 sum-above-sum-above-requires : (t : ℕ) → sum-above-lts.Need-sum-above-requires (
   sum-above-below t,
   sum-above.Post,
-  wide-reads.Asked,
-  wide-reads.Learnt,
 ) (sum-above-at t) sum-above.Post
 sum-above-sum-above-requires t c κs = (omega arith, omega arith)
 
-sum-above-mul-wide : (t : ℕ) → sum-above-lts.Need-mul-wide (
-  sum-above-below t,
-  sum-above.Post,
-  wide-reads.Asked,
-  wide-reads.Learnt,
-) (sum-above-at t) sum-above.Post
-sum-above-mul-wide t c = search needs
+sum-above-mul-result :
+    (t : ℕ) →
+    sum-above-lts.Need-mul-result
+    (sum-above-below t, sum-above.Post)
+    (sum-above-at t)
+    sum-above.Post
+sum-above-mul-result t c = search needs
 
-sum-above-shared-slice-read-wide : (t : ℕ) → sum-above-lts.Need-shared-slice-read-wide (
+sum-above-shared-slice-read-result : (t : ℕ) → sum-above-lts.Need-shared-slice-read-result (
   sum-above-below t,
   sum-above.Post,
-  wide-reads.Asked,
-  wide-reads.Learnt,
 ) (sum-above-at t) sum-above.Post
-sum-above-shared-slice-read-wide t c = omega arith
+sum-above-shared-slice-read-result t c = omega arith
 
-sum-above-wide-requires : (t : ℕ) → sum-above-lts.Need-wide-requires (
+sum-above-cast-result : (t : ℕ) → sum-above-lts.Need-cast-result (
   sum-above-below t,
   sum-above.Post,
-  wide-reads.Asked,
-  wide-reads.Learnt,
 ) (sum-above-at t) sum-above.Post
-sum-above-wide-requires t c κs = search needs
+sum-above-cast-result t c =
+    let narrow = c .shared-slice-known2 .given (c .before .before .before .before .args .p - 1) in
+    omega (arith, narrow)
 
-sum-above-add-result : (t : ℕ) → sum-above-lts.Need-add-result (
-  sum-above-below t,
-  sum-above.Post,
-  wide-reads.Asked,
-  wide-reads.Learnt,
-) (sum-above-at t) sum-above.Post
-sum-above-add-result t c = omega (arith, c .before .before .sum-above .ensures .1, c .wide .ensures .1, c .before .before .before .before .before .pre)
+sum-above-add-result :
+    (t : ℕ) →
+    sum-above-lts.Need-add-result
+    (sum-above-below t, sum-above.Post)
+    (sum-above-at t)
+    sum-above.Post
+sum-above-add-result t c =
+    let narrow = c .shared-slice-known2 .given (c .before .before .before .before .args .p - 1) in
+    omega (arith, c .before .sum-above .ensures .1, narrow, c .before .before .before .before .pre)
 
-sum-above-returns : (t : ℕ) → sum-above-lts.Need-returns (
-  sum-above-below t,
-  sum-above.Post,
-  wide-reads.Asked,
-  wide-reads.Learnt,
-) (sum-above-at t) sum-above.Post
+sum-above-returns :
+    (t : ℕ) →
+    sum-above-lts.Need-returns (sum-above-below t, sum-above.Post) (sum-above-at t) sum-above.Post
 unfolding total
 sum-above-returns t c = (rw (c .if1 .taken), omega arith)
 
-sum-above-returns-2 : (t : ℕ) → sum-above-lts.Need-returns-2 (
-  sum-above-below t,
-  sum-above.Post,
-  wide-reads.Asked,
-  wide-reads.Learnt,
-) (sum-above-at t) sum-above.Post
+sum-above-returns-2 :
+    (t : ℕ) →
+    sum-above-lts.Need-returns-2
+    (sum-above-below t, sum-above.Post)
+    (sum-above-at t)
+    sum-above.Post
 sum-above-returns-2 t c =
-    let a = c .before .before .before .before .before in
+    let a = c .before .before .before .before in
+    let narrow = c .shared-slice-known2 .given (a .args .p - 1) in
     let e = total-take-pred (λ x. x) 0 refl (a .args .p) (a .args .numbers .now) (omega arith) in
-    (omega (arith, e, c .before .before .sum-above .ensures .0, c .wide .ensures .0), omega (arith, c .before .before .sum-above .ensures .1, c .wide .ensures .1))
+    (omega (arith, e, c .before .sum-above .ensures .0), omega (arith, c .before .sum-above .ensures .1, narrow))
 
 pub +sum-above-spec : {M : Type 1} → statement M
-+sum-above-spec = close μ-sum-above λ t. sum-above-lts.spec (
-  sum-above-below t,
-  sum-above.Post,
-  wide-reads.Asked,
-  wide-reads.Learnt,
-)
++sum-above-spec =
+    close
+    μ-sum-above
+    λ t. sum-above-lts.spec
+    (sum-above-below t, sum-above.Post)
     (sum-above-at t)
     sum-above.Post
     (sum-above-sub-q t)
     (sum-above-sum-above-requires t)
-    (sum-above-mul-wide t)
-    (sum-above-shared-slice-read-wide t)
-    (sum-above-wide-requires t)
+    (sum-above-mul-result t)
+    (sum-above-shared-slice-read-result t)
+    (sum-above-cast-result t)
     (sum-above-add-result t)
     (sum-above-returns t)
     (sum-above-returns-2 t)

@@ -3,6 +3,7 @@ use mathlib.Core.List.{_++_}
 use mathlib.Core.Path.{_≡_, refl, _∙_}
 use Prim.Native.Nat.{_-_, _≤_}
 use native.Mathlib.Omega.{arith}
+use borrow.Author.Needs.{needs}
 use lib.ListN.{length, take, drop}
 use Rattle.arbiter.specs.Limits.{maxPlaces}
 use Rattle.boundary.proofs.Items.{passes-at, fill-more, fill-all}
@@ -17,6 +18,9 @@ Inv-loop words accounts₀ p₀ accounts p = (p ≤ maxPlaces) × (length accoun
 abbrev μ-loop : tie.MeasureT-loop
 μ-loop words accounts₀ p₀ accounts p = maxPlaces - p
 
+no-account-requires : tie.Need-no-account-requires Inv-loop μ-loop
+no-account-requires c κs = search needs
+
 loop-holds : tie.Need-loop-holds Inv-loop μ-loop
 loop-holds c = (omega arith, refl, refl)
 
@@ -28,8 +32,8 @@ add-account-of c = omega arith
 
 account-of-requires : tie.Need-account-of-requires Inv-loop μ-loop
 account-of-requires c κs =
-    let at-pre = c .before .before .before .pre in
-    let at-args = c .before .before .before .args in
+    let at-pre = c .before .before .before .before .pre in
+    let at-args = c .before .before .before .before .args in
     let at-loop = c .before .loop in
     (omega (arith, at-pre .0), passes-at (λ q. accountFrom (at-args .words .now) (accountStart maxPlaces q)) maxPlaces (at-loop .p) accountFits (c .loop-test .taken) (at-pre .1))
 
@@ -48,14 +52,14 @@ loop-less c = omega arith
 loop-again : tie.Need-loop-again Inv-loop μ-loop
 loop-again c =
     let at-loop = c .before .before .loop in
-    let at-args = c .before .before .before .before .args in
+    let at-args = c .before .before .before .before .before .args in
     let at-loop-test = c .before .loop-test in
     (omega arith, at-loop .inv .1, fill-more (λ q. accountFrom (at-args .words .now) (accountStart maxPlaces q)) maxPlaces (at-loop .p) _ _ _ (at-loop-test .taken) (at-loop .inv .1) (at-loop .inv .2) (c .account-of .ensures))
 
 returns : tie.Need-returns Inv-loop μ-loop
 returns c =
     let at-loop = c .before .loop in
-    let at-args = c .before .before .before .args in
+    let at-args = c .before .before .before .before .args in
     at-loop .inv .2 ∙ fill-all (λ q. accountFrom (at-args .words .now) (accountStart maxPlaces q)) maxPlaces (at-loop .p) _ (c .loop-test .left)
     (at-loop .inv .1)
 
@@ -65,6 +69,7 @@ accounts-of-spec =
     (tie.spec
     Inv-loop
     μ-loop
+    no-account-requires
     loop-holds
     mul-account-of
     add-account-of

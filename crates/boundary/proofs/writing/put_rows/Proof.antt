@@ -6,15 +6,15 @@ use borrow.Author.Needs.{needs}
 use lib.ListN.{length, length-set, take}
 use Rattle.arbiter.specs.Limits.{maxPlaces}
 use Rattle.arbiter.proofs.Shapes.{table-rows}
+use Rattle.arbiter.specs.Table.{rowNumbers}
 use Rattle.boundary.proofs.Filling.{put-none, put-all, rows-length, row-put}
-use Rattle.boundary.specs.Words.{rowWords}
 use Rattle.lists.specs.Overwriting.{writtenOver}
 use Rattle.lists.specs.Sums.{joined}
 use Rattle.boundary.proofs.writing.put_rows.Statement.{statement}
 use Rattle.boundary.proofs.writing.put_rows.Tie as tie
 
 abbrev Inv-loop : tie.InvT-loop
-Inv-loop words₀ t p₀ words p = (p ≤ maxPlaces) × (words ≡ writtenOver (joined rowWords (take p (t .requestors))) words₀)
+Inv-loop words₀ t p₀ words p = (p ≤ maxPlaces) × (words ≡ writtenOver (joined rowNumbers (take p (t .requestors))) words₀)
 
 abbrev μ-loop : tie.MeasureT-loop
 μ-loop words₀ t p₀ words p = maxPlaces - p
@@ -24,7 +24,7 @@ long : (c : tie.Start Inv-loop μ-loop) → length (c .args .t1 .requestors) ≡
 long c = table-rows (c .args .t1) (c .good .0)
 
 loop-holds : tie.Need-loop-holds Inv-loop μ-loop
-loop-holds c = (omega arith, put-none rowWords (c .args .t1 .requestors) _)
+loop-holds c = (omega arith, put-none rowNumbers (c .args .t1 .requestors) _)
 
 mul-r : tie.Need-mul-r Inv-loop μ-loop
 mul-r c = omega arith
@@ -128,7 +128,7 @@ returns c =
     let at-args = c .before .before .args in
     let at-loop = c .before .loop in
     let at-before = c .before .before in
-    put-all rowWords (at-args .t1 .requestors) _ _ (at-loop .p) (at-loop .inv .1) (omega (arith, c .loop-test .left, long (at-before)))
+    put-all rowNumbers (at-args .t1 .requestors) _ _ (at-loop .p) (at-loop .inv .1) (omega (arith, c .loop-test .left, long (at-before)))
 
 pub put-rows-spec : {M : Type 1} → statement M
 put-rows-spec =

@@ -7,9 +7,10 @@ use lib.ListN.{length, length-set}
 use Rattle.arbiter.specs.Limits.{maxPlaces}
 use Rattle.arbiter.specs.State.{Shaped}
 use Rattle.arbiter.proofs.Shapes.{shaped}
+use Rattle.arbiter.specs.Table.{rowNumbers}
 use Rattle.boundary.proofs.Filling.{front-length, part-length, more-put, head-put, state-put}
 use Rattle.boundary.proofs.Words.{length-rows, length-state}
-use Rattle.boundary.specs.Words.{rowWords, accountWords, headWords, accountStart}
+use Rattle.boundary.specs.Words.{accountWords, headWords, accountStart}
 use Rattle.lists.specs.Sums.{joined}
 use Rattle.boundary.proofs.writing.put_state.Statement.{statement}
 use Rattle.boundary.proofs.writing.put_state.Tie as tie
@@ -59,7 +60,7 @@ sub-put-accounts c =
     let at-put-rows = c .before .before .put-rows in
     let at-before = c .before .before .before .before .before .before .before .before in
     omega
-    (arith, at-pre, front-length (headWords (at-args .s) ++ (joined rowWords (at-args .s .table .requestors))) (at-args .words .now) _ (accountStart maxPlaces 0) (more-put (headWords (at-args .s)) (at-args .words .now) _ 3 (head-put (at-args .s) _ (omega (arith, at-pre))) refl (omega (arith, at-pre)) (joined rowWords (at-args .s .table .requestors)) _ (at-put-rows .ensures)) (omega (arith, length-rows (at-args .s .table .requestors), shape (at-before) .rows)) (omega (arith, at-pre)))
+    (arith, at-pre, front-length (headWords (at-args .s) ++ (joined rowNumbers (at-args .s .table .requestors))) (at-args .words .now) _ (accountStart maxPlaces 0) (more-put (headWords (at-args .s)) (at-args .words .now) _ 3 (head-put (at-args .s) _ (omega (arith, at-pre))) refl (omega (arith, at-pre)) (joined rowNumbers (at-args .s .table .requestors)) _ (at-put-rows .ensures)) (omega (arith, length-rows (at-args .s .table .requestors), shape (at-before) .rows)) (omega (arith, at-pre)))
 
 part-put-accounts-start : tie.Need-part-put-accounts-start
 part-put-accounts-start c =
@@ -68,7 +69,7 @@ part-put-accounts-start c =
     let at-put-rows = c .before .before .put-rows in
     let at-before = c .before .before .before .before .before .before .before .before in
     omega
-    (arith, at-pre, front-length (headWords (at-args .s) ++ (joined rowWords (at-args .s .table .requestors))) (at-args .words .now) _ (accountStart maxPlaces 0) (more-put (headWords (at-args .s)) (at-args .words .now) _ 3 (head-put (at-args .s) _ (omega (arith, at-pre))) refl (omega (arith, at-pre)) (joined rowWords (at-args .s .table .requestors)) _ (at-put-rows .ensures)) (omega (arith, length-rows (at-args .s .table .requestors), shape (at-before) .rows)) (omega (arith, at-pre)))
+    (arith, at-pre, front-length (headWords (at-args .s) ++ (joined rowNumbers (at-args .s .table .requestors))) (at-args .words .now) _ (accountStart maxPlaces 0) (more-put (headWords (at-args .s)) (at-args .words .now) _ 3 (head-put (at-args .s) _ (omega (arith, at-pre))) refl (omega (arith, at-pre)) (joined rowNumbers (at-args .s .table .requestors)) _ (at-put-rows .ensures)) (omega (arith, length-rows (at-args .s .table .requestors), shape (at-before) .rows)) (omega (arith, at-pre)))
 
 part-put-accounts-end : tie.Need-part-put-accounts-end
 part-put-accounts-end c = search needs
@@ -80,7 +81,7 @@ put-accounts-requires c κs =
     let at-put-rows = c .before .before .before .put-rows in
     let at-before = c .before .before .before .before .before .before .before .before .before in
     omega
-    (arith, at-pre, part-length (headWords (at-args .s) ++ (joined rowWords (at-args .s .table .requestors))) (at-args .words .now) _ (accountStart maxPlaces 0) (more-put (headWords (at-args .s)) (at-args .words .now) _ 3 (head-put (at-args .s) _ (omega (arith, at-pre))) refl (omega (arith, at-pre)) (joined rowWords (at-args .s .table .requestors)) _ (at-put-rows .ensures)) (omega (arith, length-rows (at-args .s .table .requestors), shape (at-before) .rows)) (omega (arith, at-pre)))
+    (arith, at-pre, part-length (headWords (at-args .s) ++ (joined rowNumbers (at-args .s .table .requestors))) (at-args .words .now) _ (accountStart maxPlaces 0) (more-put (headWords (at-args .s)) (at-args .words .now) _ 3 (head-put (at-args .s) _ (omega (arith, at-pre))) refl (omega (arith, at-pre)) (joined rowNumbers (at-args .s .table .requestors)) _ (at-put-rows .ensures)) (omega (arith, length-rows (at-args .s .table .requestors), shape (at-before) .rows)) (omega (arith, at-pre)))
 
 same-length : tie.Need-same-length
 same-length c =
@@ -90,7 +91,7 @@ same-length c =
     let at-before = c .before .before .before .before .before .before .before .before .before .before .before .before in
     let at-put-accounts = c .before .before .put-accounts in
     ap length
-    (more-put (headWords (at-args .s) ++ (joined rowWords (at-args .s .table .requestors))) (at-args .words .now) _ (accountStart maxPlaces 0) (more-put (headWords (at-args .s)) (at-args .words .now) _ 3 (head-put (at-args .s) _ (omega (arith, at-pre))) refl (omega (arith, at-pre)) (joined rowWords (at-args .s .table .requestors)) _ (at-put-rows .ensures)) (omega (arith, length-rows (at-args .s .table .requestors), shape (at-before) .rows)) (omega (arith, at-pre)) (joined accountWords (at-args .s .accounts)) _ (at-put-accounts .ensures) ∙ state-put (at-args .s) (at-args .words .now) maxPlaces (shape (at-before)) (at-pre)) ∙
+    (more-put (headWords (at-args .s) ++ (joined rowNumbers (at-args .s .table .requestors))) (at-args .words .now) _ (accountStart maxPlaces 0) (more-put (headWords (at-args .s)) (at-args .words .now) _ 3 (head-put (at-args .s) _ (omega (arith, at-pre))) refl (omega (arith, at-pre)) (joined rowNumbers (at-args .s .table .requestors)) _ (at-put-rows .ensures)) (omega (arith, length-rows (at-args .s .table .requestors), shape (at-before) .rows)) (omega (arith, at-pre)) (joined accountWords (at-args .s .accounts)) _ (at-put-accounts .ensures) ∙ state-put (at-args .s) (at-args .words .now) maxPlaces (shape (at-before)) (at-pre)) ∙
     length-state maxPlaces (at-args .s) (shape (at-before)) ∙ sym (at-pre)
 
 returns : tie.Need-returns
@@ -100,7 +101,7 @@ returns c =
     let at-put-rows = c .before .before .before .before .before .before .put-rows in
     let at-before = c .before .before .before .before .before .before .before .before .before .before .before .before in
     let at-put-accounts = c .before .before .put-accounts in
-    (more-put (headWords (at-args .s) ++ (joined rowWords (at-args .s .table .requestors))) (at-args .words .now) _ (accountStart maxPlaces 0) (more-put (headWords (at-args .s)) (at-args .words .now) _ 3 (head-put (at-args .s) _ (omega (arith, at-pre))) refl (omega (arith, at-pre)) (joined rowWords (at-args .s .table .requestors)) _ (at-put-rows .ensures)) (omega (arith, length-rows (at-args .s .table .requestors), shape (at-before) .rows)) (omega (arith, at-pre)) (joined accountWords (at-args .s .accounts)) _ (at-put-accounts .ensures) ∙ state-put (at-args .s) (at-args .words .now) maxPlaces (shape (at-before)) (at-pre))
+    (more-put (headWords (at-args .s) ++ (joined rowNumbers (at-args .s .table .requestors))) (at-args .words .now) _ (accountStart maxPlaces 0) (more-put (headWords (at-args .s)) (at-args .words .now) _ 3 (head-put (at-args .s) _ (omega (arith, at-pre))) refl (omega (arith, at-pre)) (joined rowNumbers (at-args .s .table .requestors)) _ (at-put-rows .ensures)) (omega (arith, length-rows (at-args .s .table .requestors), shape (at-before) .rows)) (omega (arith, at-pre)) (joined accountWords (at-args .s .accounts)) _ (at-put-accounts .ensures) ∙ state-put (at-args .s) (at-args .words .now) maxPlaces (shape (at-before)) (at-pre))
 
 pub put-state-spec : {M : Type 1} → statement M
 put-state-spec =

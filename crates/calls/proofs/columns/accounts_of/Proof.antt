@@ -3,6 +3,7 @@ use mathlib.Core.Path.{_≡_, refl, sym, _∙_}
 use mathlib.Core.List.{_++_}
 use Prim.Native.Nat.{_-_, _≤_}
 use native.Mathlib.Omega.{arith}
+use borrow.Author.Needs.{needs}
 use lib.ListN.{length, length-replicate, take, drop}
 use Rattle.lists.proofs.Overwriting.{overwrite-more, overwrite-all}
 use Rattle.lists.proofs.Pairs.{length-paired}
@@ -22,11 +23,14 @@ abbrev μ-loop : tie.MeasureT-loop
 long : (c : tie.Start Inv-loop μ-loop) → length (accountsOf (c .args .credits .now) (c .args .backlogs .now)) ≡ maxPlaces
 long c = length-paired accountOf (c .args .credits .now) (c .args .backlogs .now) (c .pre .0 ∙ sym (c .pre .1)) ∙ c .pre .0
 
+no-account-requires : tie.Need-no-account-requires Inv-loop μ-loop
+no-account-requires c κs = search needs
+
 loop-holds : tie.Need-loop-holds Inv-loop μ-loop
 loop-holds c = (omega arith, simp length-replicate refl, refl)
 
 account-at-requires : tie.Need-account-at-requires Inv-loop μ-loop
-account-at-requires c κs = (omega (arith, c .loop-test .taken, c .before .before .before .before .pre .0), omega (arith, c .loop-test .taken, c .before .before .before .before .pre .1))
+account-at-requires c κs = (omega (arith, c .loop-test .taken, c .before .before .before .before .before .pre .0), omega (arith, c .loop-test .taken, c .before .before .before .before .before .pre .1))
 
 mul-accounts : tie.Need-mul-accounts Inv-loop μ-loop
 mul-accounts c = omega (arith, c .before .loop-test .taken)
@@ -44,15 +48,15 @@ loop-again : tie.Need-loop-again Inv-loop μ-loop
 loop-again c = (
   omega (arith, c .before .loop-test .taken),
   c .before .before .loop .inv .1,
-  overwrite-more noAccount (accountsOf (c .before .before .before .before .before .args .credits .now) (c .before .before .before .before .before .args .backlogs .now)) _ _ (c .before .before .loop .p) _
-      (omega (arith, long (c .before .before .before .before .before), c .before .loop-test .taken)) (omega (arith, c .before .before .loop .inv .1, c .before .loop-test .taken)) (c .before .before .loop .inv .2) (c .account-at .ensures),
+  overwrite-more noAccount (accountsOf (c .before .before .before .before .before .before .args .credits .now) (c .before .before .before .before .before .before .args .backlogs .now)) _ _ (c .before .before .loop .p) _
+      (omega (arith, long (c .before .before .before .before .before .before), c .before .loop-test .taken)) (omega (arith, c .before .before .loop .inv .1, c .before .loop-test .taken)) (c .before .before .loop .inv .2) (c .account-at .ensures),
 )
 
 returns : tie.Need-returns Inv-loop μ-loop
 returns c =
     c .before .loop .inv .2
-    ∙ overwrite-all noAccount (accountsOf (c .before .before .before .before .args .credits .now) (c .before .before .before .before .args .backlogs .now)) _ (c .before .loop .p)
-    (omega (arith, long (c .before .before .before .before), c .loop-test .left)) (omega (arith, c .before .loop .inv .1, c .loop-test .left))
+    ∙ overwrite-all noAccount (accountsOf (c .before .before .before .before .before .args .credits .now) (c .before .before .before .before .before .args .backlogs .now)) _ (c .before .loop .p)
+    (omega (arith, long (c .before .before .before .before .before), c .loop-test .left)) (omega (arith, c .before .loop .inv .1, c .loop-test .left))
 
 pub accounts-of-spec : {M : Type 1} → statement M
 accounts-of-spec =
@@ -60,6 +64,7 @@ accounts-of-spec =
     (tie.spec
     Inv-loop
     μ-loop
+    no-account-requires
     loop-holds
     account-at-requires
     mul-accounts

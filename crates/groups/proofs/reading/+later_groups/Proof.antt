@@ -1,19 +1,18 @@
 -- `groups::reading::later_groups` meets its contract. The byte at hand, and then the reading of the rest of the bytes. The measure is
 -- how many groups may still come. Assumes nothing.
-use mathlib.Core.Path.{sym}
+use mathlib.Core.Path.{refl, sym}
 use Prim.Native.Nat.{_-_}
-use Prim.Native.Nat.{ℕ, _<_}
 use native.Mathlib.Omega.{arith}
 use borrow.Author.Needs.{needs}
+use Rattle.groups.proofs.Readings.{later-none, later-ended, later-last, later-more, later-few}
+use Prim.Native.Nat.{ℕ, _<_}
 use borrow.Fn.Kinds.{In}
 use borrow.Fn.PlainCycle.{Measures, is, falls, and}
-use Rattle.groups.proofs.Readings.{later-none, later-ended, later-last, later-more, later-few}
 use Rattle.groups.proofs.reading.later_groups.Reads as later-groups
 use Rattle.groups.proofs.reading.later_groups.Kinds as later-groups-kinds
 use Rattle.groups.proofs.reading.+later_groups.Lts-later_groups as later-groups-lts
 use Rattle.groups.proofs.reading.combine.Reads as combine-reads
 use Rattle.groups.proofs.reading.last_group.Reads as last-group-reads
-use Rattle.groups.proofs.reading.wide.Reads as wide-reads
 use Rattle.groups.proofs.reading.+later_groups.{statement}
 use Rattle.groups.proofs.reading.+later_groups.Tie.{close}
 
@@ -33,8 +32,6 @@ later-groups-below t =
     later-groups.Pre
 
 later-groups-returns : (t : ℕ) → later-groups-lts.Need-returns (
-  wide-reads.Asked,
-  wide-reads.Learnt,
   last-group-reads.Asked,
   last-group-reads.Learnt,
   later-groups-below t,
@@ -45,8 +42,6 @@ later-groups-returns : (t : ℕ) → later-groups-lts.Need-returns (
 later-groups-returns t c = sym (later-none _ _ (c .if1 .taken))
 
 later-groups-returns-2 : (t : ℕ) → later-groups-lts.Need-returns-2 (
-  wide-reads.Asked,
-  wide-reads.Learnt,
   last-group-reads.Asked,
   last-group-reads.Learnt,
   later-groups-below t,
@@ -56,9 +51,7 @@ later-groups-returns-2 : (t : ℕ) → later-groups-lts.Need-returns-2 (
 ) (later-groups-at t) later-groups.Post
 later-groups-returns-2 t c = sym (later-ended _ _ (c .before .if1 .left) (c .if2 .taken))
 
-later-groups-shared-slice-read-wide : (t : ℕ) → later-groups-lts.Need-shared-slice-read-wide (
-  wide-reads.Asked,
-  wide-reads.Learnt,
+later-groups-shared-slice-read-x : (t : ℕ) → later-groups-lts.Need-shared-slice-read-x (
   last-group-reads.Asked,
   last-group-reads.Learnt,
   later-groups-below t,
@@ -66,11 +59,9 @@ later-groups-shared-slice-read-wide : (t : ℕ) → later-groups-lts.Need-shared
   combine-reads.Asked,
   combine-reads.Learnt,
 ) (later-groups-at t) later-groups.Post
-later-groups-shared-slice-read-wide t c = search needs
+later-groups-shared-slice-read-x t c = search needs
 
-later-groups-wide-requires : (t : ℕ) → later-groups-lts.Need-wide-requires (
-  wide-reads.Asked,
-  wide-reads.Learnt,
+later-groups-cast-x : (t : ℕ) → later-groups-lts.Need-cast-x (
   last-group-reads.Asked,
   last-group-reads.Learnt,
   later-groups-below t,
@@ -78,11 +69,9 @@ later-groups-wide-requires : (t : ℕ) → later-groups-lts.Need-wide-requires (
   combine-reads.Asked,
   combine-reads.Learnt,
 ) (later-groups-at t) later-groups.Post
-later-groups-wide-requires t c κs = search needs
+later-groups-cast-x t c = omega (arith, c .shared-slice-known2 .given 0)
 
 later-groups-last-group-requires : (t : ℕ) → later-groups-lts.Need-last-group-requires (
-  wide-reads.Asked,
-  wide-reads.Learnt,
   last-group-reads.Asked,
   last-group-reads.Learnt,
   later-groups-below t,
@@ -93,8 +82,6 @@ later-groups-last-group-requires : (t : ℕ) → later-groups-lts.Need-last-grou
 later-groups-last-group-requires t c κs = search needs
 
 later-groups-returns-3 : (t : ℕ) → later-groups-lts.Need-returns-3 (
-  wide-reads.Asked,
-  wide-reads.Learnt,
   last-group-reads.Asked,
   last-group-reads.Learnt,
   later-groups-below t,
@@ -102,11 +89,9 @@ later-groups-returns-3 : (t : ℕ) → later-groups-lts.Need-returns-3 (
   combine-reads.Asked,
   combine-reads.Learnt,
 ) (later-groups-at t) later-groups.Post
-later-groups-returns-3 t c = later-last _ _ (c .before .before .before .before .if2 .left) (c .before .before .wide .ensures) _ (c .before .before .before .before .before .if1 .left) _ (c .before .if3 .taken) (c .last-group .ensures)
+later-groups-returns-3 t c = later-last _ _ (c .before .before .before .if2 .left) refl _ (c .before .before .before .before .if1 .left) _ (c .before .if3 .taken) (c .last-group .ensures)
 
 later-groups-sub-later-groups : (t : ℕ) → later-groups-lts.Need-sub-later-groups (
-  wide-reads.Asked,
-  wide-reads.Learnt,
   last-group-reads.Asked,
   last-group-reads.Learnt,
   later-groups-below t,
@@ -117,8 +102,6 @@ later-groups-sub-later-groups : (t : ℕ) → later-groups-lts.Need-sub-later-gr
 later-groups-sub-later-groups t c = search needs
 
 later-groups-part-later-groups-start : (t : ℕ) → later-groups-lts.Need-part-later-groups-start (
-  wide-reads.Asked,
-  wide-reads.Learnt,
   last-group-reads.Asked,
   last-group-reads.Learnt,
   later-groups-below t,
@@ -129,8 +112,6 @@ later-groups-part-later-groups-start : (t : ℕ) → later-groups-lts.Need-part-
 later-groups-part-later-groups-start t c = search needs
 
 later-groups-part-later-groups-end : (t : ℕ) → later-groups-lts.Need-part-later-groups-end (
-  wide-reads.Asked,
-  wide-reads.Learnt,
   last-group-reads.Asked,
   last-group-reads.Learnt,
   later-groups-below t,
@@ -141,8 +122,6 @@ later-groups-part-later-groups-end : (t : ℕ) → later-groups-lts.Need-part-la
 later-groups-part-later-groups-end t c = search needs
 
 later-groups-sub-later-groups-2 : (t : ℕ) → later-groups-lts.Need-sub-later-groups-2 (
-  wide-reads.Asked,
-  wide-reads.Learnt,
   last-group-reads.Asked,
   last-group-reads.Learnt,
   later-groups-below t,
@@ -153,8 +132,6 @@ later-groups-sub-later-groups-2 : (t : ℕ) → later-groups-lts.Need-sub-later-
 later-groups-sub-later-groups-2 t c = search needs
 
 later-groups-later-groups-requires : (t : ℕ) → later-groups-lts.Need-later-groups-requires (
-  wide-reads.Asked,
-  wide-reads.Learnt,
   last-group-reads.Asked,
   last-group-reads.Learnt,
   later-groups-below t,
@@ -165,8 +142,6 @@ later-groups-later-groups-requires : (t : ℕ) → later-groups-lts.Need-later-g
 later-groups-later-groups-requires t c κs = search needs
 
 later-groups-combine-requires : (t : ℕ) → later-groups-lts.Need-combine-requires (
-  wide-reads.Asked,
-  wide-reads.Learnt,
   last-group-reads.Asked,
   last-group-reads.Learnt,
   later-groups-below t,
@@ -176,11 +151,9 @@ later-groups-combine-requires : (t : ℕ) → later-groups-lts.Need-combine-requ
 ) (later-groups-at t) later-groups.Post
 later-groups-combine-requires t c κs =
     let few = later-few _ _ _ (c .later-groups .ensures) in
-    (c .before .before .if3 .left, omega (arith, c .before .before .before .before .shared-slice-known2 .given 0, c .before .before .before .wide .ensures), omega (arith, few, c .before .before .before .before .before .before .before .before .pre))
+    (c .before .before .if3 .left, omega (arith, c .before .before .before .shared-slice-known2 .given 0), omega (arith, few, c .before .before .before .before .before .before .before .pre))
 
 later-groups-returns-4 : (t : ℕ) → later-groups-lts.Need-returns-4 (
-  wide-reads.Asked,
-  wide-reads.Learnt,
   last-group-reads.Asked,
   last-group-reads.Learnt,
   later-groups-below t,
@@ -188,13 +161,10 @@ later-groups-returns-4 : (t : ℕ) → later-groups-lts.Need-returns-4 (
   combine-reads.Asked,
   combine-reads.Learnt,
 ) (later-groups-at t) later-groups.Post
-later-groups-returns-4 t c =
-    later-more _ _ (c .before .before .before .before .before .before .if2 .left) (c .before .before .before .before .wide .ensures) _ (c .before .before .before .before .before .before .before .if1 .left) _ _ (c .before .before .before .if3 .left) (c .before .later-groups .ensures) (c .combine .ensures)
+later-groups-returns-4 t c = later-more _ _ (c .before .before .before .before .before .if2 .left) refl _ (c .before .before .before .before .before .before .if1 .left) _ _ (c .before .before .before .if3 .left) (c .before .later-groups .ensures) (c .combine .ensures)
 
 pub +later-groups-spec : {M : Type 1} → statement M
 +later-groups-spec = close μ-later-groups λ t. later-groups-lts.spec (
-  wide-reads.Asked,
-  wide-reads.Learnt,
   last-group-reads.Asked,
   last-group-reads.Learnt,
   later-groups-below t,
@@ -206,8 +176,8 @@ pub +later-groups-spec : {M : Type 1} → statement M
     later-groups.Post
     (later-groups-returns t)
     (later-groups-returns-2 t)
-    (later-groups-shared-slice-read-wide t)
-    (later-groups-wide-requires t)
+    (later-groups-shared-slice-read-x t)
+    (later-groups-cast-x t)
     (later-groups-last-group-requires t)
     (later-groups-returns-3 t)
     (later-groups-sub-later-groups t)

@@ -1,11 +1,11 @@
--- `boundary::states::begin` meets its contract. By what the reading answers. Assumes nothing.
+-- `boundary::starts::begin` meets its contract. By what the reading answers. Assumes nothing.
 use mathlib.Core.Path.{ap}
 use borrow.Author.Needs.{needs}
 use Rattle.arbiter.specs.Limits.{maxPlaces}
 use Rattle.boundary.proofs.Boundary.{begun-started, begun-refused, begun-of}
 use Rattle.table_bytes.specs.Reading.{readAnswerOf, readResultOf}
-use Rattle.boundary.proofs.states.begin.Statement.{statement}
-use Rattle.boundary.proofs.states.begin.Tie as tie
+use Rattle.boundary.proofs.starts.begin.Statement.{statement}
+use Rattle.boundary.proofs.starts.begin.Tie as tie
 
 read-table-requires : tie.Need-read-table-requires
 read-table-requires c κs = search needs
