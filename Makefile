@@ -1,25 +1,28 @@
-# run: prove, build and run slotlist on the example basin. test: the gate. picture: the basin as docs/basin.svg.
-# bench: the product's time beside a plain Rust model's; on a machine that does nothing else.
-.PHONY: run test picture bench
+# Each target does all of its own set-up. Files are made beside their place and then moved there, so that none is left half-made.
+.PHONY: run test picture bench help
 
-run: target/basin.bin
-	@rt check slotlist >target/run.log 2>&1 || { cat target/run.log; exit 1; }
+run: target/basin.bin ## proves and builds the program slotlist, and runs it on the example basin
+	@tools/progress rt check slotlist
 	@target/bin/slotlist <target/basin.bin
 
 target/basin.bin: examples/basin.hex tools/bytes
 	@mkdir -p target
-	@tools/bytes examples/basin.hex >$@
+	@tools/bytes examples/basin.hex >$@.part
+	@mv $@.part $@
 
-test:
+test: ## the gate: proves everything from nothing, tries every must-fail edit, runs every program and test
 	@.ci/run
 
-picture:
+picture: ## draws what slotlist prints of the basin as docs/basin.svg
 	@mkdir -p target
 	@$(MAKE) -s run >target/basin.txt
 	@cd rust && cargo run --offline --quiet --package timeline -- pump 'pH probe' 'chlorine probe' handset 'service log' \
-	    <../target/basin.txt >../docs/basin.svg
+	    <../target/basin.txt >../target/basin.svg
+	@mv target/basin.svg docs/basin.svg
 
-bench:
-	@mkdir -p target
-	@rt staticlib boundary >target/bench.log 2>&1 || { cat target/bench.log; exit 1; }
+bench: ## the product's time beside a plain Rust model's; on a machine that does nothing else
+	@tools/progress rt staticlib boundary
 	@cd rust && cargo bench --offline --quiet --bench side_by_side
+
+help: ## lists the targets
+	@sed -n 's/^\([a-z]*\):.*## /make \1\t/p' Makefile

@@ -5,6 +5,7 @@
  * to whoever was granted.
  */
 #include <stdio.h>
+#include <string.h>
 
 #include "justrave.h"
 
@@ -15,14 +16,14 @@ enum { PUMP, PH_PROBE, CHLORINE_PROBE, HANDSET, SERVICE_LOG };
 
 static const char *const who[PLACES] = {"pump", "pH probe", "chlorine probe", "handset", "service log"};
 
-/* D, N, and for each place rate, burst, and the need's j and L; 160 takes two bytes */
-static const uint8_t table[] = {
-    20, 5,
+/* D, N, and for each place rate, burst, and the need's j and L; C fills the other places with 0 */
+static const uint32_t table[JUSTRAVE_TABLE_NUMBERS] = {
+    20, PLACES,
     4, 40, 2, 10,
     2, 20, 1, 15,
     2, 20, 1, 15,
     4, 60, 3, 25,
-    8, 0xA0, 0x01, 8, 50,
+    8, 160, 8, 50,
 };
 
 /* What falls due before which slot. A real unit has its interrupts here. */
@@ -87,19 +88,37 @@ static void tell_handset(void)
     }
 }
 
+/* The table's bytes, as they are kept or sent: nobody needs an encoder. A start from them makes the same state. */
+static void tell_bytes(void)
+{
+    uint8_t bytes[JUSTRAVE_TABLE_ROOM];
+    uint64_t length[JUSTRAVE_WRITE_ANSWER];
+    uint64_t other[JUSTRAVE_STATE_WORDS];
+
+    if (refused("write", justrave_write(state, JUSTRAVE_STATE_WORDS, bytes, sizeof bytes, length, JUSTRAVE_WRITE_ANSWER))) {
+        return;
+    }
+    printf("table:");
+    for (size_t i = 0; i < length[0]; i++) {
+        printf(" %02X", (unsigned)bytes[i]);
+    }
+    printf("\n");
+    if (!refused("start", justrave_start(bytes, length[0], 0, other, JUSTRAVE_STATE_WORDS))) {
+        printf("a start from its bytes makes %s state\n", memcmp(state, other, sizeof state) == 0 ? "the same" : "another");
+    }
+}
+
 /* What bad input gets: a number, and nothing changes. */
 static void show_refusals(void)
 {
     uint64_t other[JUSTRAVE_STATE_WORDS];
-    uint8_t hasty[sizeof table];
+    uint32_t hasty[JUSTRAVE_TABLE_NUMBERS];
 
     refused("post", justrave_post(state, JUSTRAVE_STATE_WORDS, PLACES, 1));
     refused("post", justrave_post(state, JUSTRAVE_STATE_WORDS, PUMP, 65536));
-    for (size_t i = 0; i < sizeof table; i++) {
-        hasty[i] = table[i];
-    }
+    memcpy(hasty, table, sizeof hasty);
     hasty[5] = 9; /* the pump's two transfers within 9 slots: its finish figure is 10 */
-    refused("start", justrave_start(hasty, sizeof hasty, 0, other, JUSTRAVE_STATE_WORDS));
+    refused("start", justrave_start_numbers(hasty, JUSTRAVE_TABLE_NUMBERS, 0, other, JUSTRAVE_STATE_WORDS));
 }
 
 int main(void)
@@ -108,9 +127,10 @@ int main(void)
         printf("header and library do not fit: a state has %zu words\n", justrave_state_words());
         return 1;
     }
-    if (refused("start", justrave_start(table, sizeof table, 0, state, JUSTRAVE_STATE_WORDS))) {
+    if (refused("start", justrave_start_numbers(table, JUSTRAVE_TABLE_NUMBERS, 0, state, JUSTRAVE_STATE_WORDS))) {
         return 1;
     }
+    tell_bytes();
     tell_handset();
     for (uint64_t slot = 0; slot < SLOTS && turn(slot); slot++) {
     }

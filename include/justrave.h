@@ -10,13 +10,19 @@
  * were damaged meanwhile are refused (JUSTRAVE_BROKEN_STATE) wherever they break a rule of the arbiter's state.
  *
  * What the caller owes, since C cannot say it in a type:
- * - a pointer is not NULL, is aligned for its type, and has as many elements behind it as its length says. With length 0 nothing
- *   is read or written behind it;
+ * - a pointer is aligned for its type and has as many elements behind it as its length says. With length 0 nothing is read or written
+ *   behind it, and NULL may be lent;
  * - memory that is lent for writing overlaps no other memory of the same call;
  * - while a call runs nobody else writes its memory, and nobody else reads what is lent to it for writing.
  *
  * Nothing else is asked. Any number, any bytes and any words may be handed in: every call has an answer. But C cuts a number down to
  * the type of its parameter before the call: a count of transfers has 32 bits, and a larger one arrives as another count.
+ *
+ * The stack. The library follows the System V calling convention of x86-64. It finds the stack aligned to 16 bytes, as every caller
+ * leaves it, and keeps it so; and it uses the red zone, the 128 bytes below the stack pointer. An interrupt handler that runs on the same
+ * stack must skip these 128 bytes before it writes, as the handlers of a process's signals do. How many bytes of stack a call takes, its
+ * return address and the red zone included, measured with 16 places by tests/stack: a start from bytes 8,400, one from numbers 6,080,
+ * a write 5,440, a run 5,072, a slot 4,896, a lead 4,496, figures 4,480, a post 3,792. JUSTRAVE_STACK is enough for each.
  */
 #ifndef JUSTRAVE_H
 #define JUSTRAVE_H
@@ -40,6 +46,12 @@ extern "C" {
  */
 #define JUSTRAVE_STATE_WORDS 99
 
+/* How many numbers a table has that is given as numbers: D, N and four to each of 16 places. */
+#define JUSTRAVE_TABLE_NUMBERS 66
+
+/* Enough bytes of stack for any one call. */
+#define JUSTRAVE_STACK 10240
+
 /* How many words, or for the lead how many signed numbers, each answer has. */
 #define JUSTRAVE_SLOT_ANSWER 2
 #define JUSTRAVE_FIGURES_ANSWER 2
@@ -60,7 +72,9 @@ extern "C" {
 
 /*
  * An outcome, which every call but justrave_state_words returns. 0 is accepted. Any other is a refusal: its number, of document 01 or
- * 255, in the low 8 bits, and above them the place that the refusal names, plus 1, or 0 if it names none.
+ * 255, in the low 8 bits, and above them the place that the refusal names, plus 1, or 0 if it names none. Refusals 3, 4, 5 and 7 always
+ * name a place, so an outcome is never equal to their names: compare JUSTRAVE_NUMBER(outcome) with a name, and the outcome itself with
+ * nothing but JUSTRAVE_ACCEPTED.
  *
  * A refused call changes nothing: the state, the log, the buffer and the answer are what they were. Only a start that is refused
  * for its table or its slot number writes: it sets every word of the state to 0, and every other call on such words is refused 23.
@@ -71,7 +85,7 @@ enum {
 
     /* caused by the input */
     JUSTRAVE_DENOMINATOR = 1,  /* D is not 1 to 65,535 */
-    JUSTRAVE_PLACES = 2,       /* N is not 1 to 16 */
+    JUSTRAVE_PLACES = 2,       /* N is not 1 to 16; in a table given as numbers, or a number past place N-1 is not 0 */
     JUSTRAVE_RATE = 3,         /* a rate is not 1 to D; names the place */
     JUSTRAVE_BURST = 4,        /* a burst is not D to 16,777,216; names the place */
     JUSTRAVE_NEED = 5,         /* a need's j is not 1 to 255, or its L not 1 to 1,073,741,824; names the place */
@@ -90,7 +104,8 @@ enum {
     JUSTRAVE_SLOT_LIMIT = 22,  /* the slot number stands at its limit; for a run, it would pass it */
     JUSTRAVE_BROKEN_STATE = 23, /* a word does not fit its field, or the state breaks a rule: no accepted start and calls lead to it */
 
-    /* of the boundary itself, caused by the input and tested before all else: a lent state or answer has not the right length */
+    /* of the boundary itself, caused by the input and tested before all else: a lent state or answer, or a table given as numbers, has
+       not the right length */
     JUSTRAVE_LENGTH = 255
 };
 
@@ -121,6 +136,14 @@ size_t justrave_state_words(void);
  * but for 255, which changes nothing.
  */
 uint64_t justrave_start(const uint8_t *table, size_t table_length, uint64_t first, uint64_t *state, size_t state_length);
+
+/*
+ * The same for a table given as numbers: D, N, then rate, burst and the need's j and L of each of 16 places. Those past place N-1 are
+ * 0. No encoder is needed for a table's bytes: start it from its numbers, and justrave_write has them. Refused 255, then 1, 2, then 3, 4,
+ * 5 place by place, then 6, 7, then 12; the words are then all 0, but for 255, which changes nothing.
+ */
+uint64_t justrave_start_numbers(const uint32_t *numbers, size_t numbers_length, uint64_t first, uint64_t *state,
+                                size_t state_length);
 
 /* Adds `count` transfers (0 is allowed) to a place's backlog. Refused 255, 23, 11, 21. */
 uint64_t justrave_post(uint64_t *state, size_t state_length, size_t place, uint32_t count);

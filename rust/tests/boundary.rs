@@ -8,11 +8,17 @@ const WORDS: usize = Arbiter::STATE_WORDS;
 /// What stands in memory that must not be written.
 const UNTOUCHED: u64 = 0xA5A5_A5A5_A5A5_A5A5;
 const T: [u8; 10] = [4, 2, 1, 8, 1, 4, 1, 4, 1, 7];
+/// D, N and four to each of 16 places.
+const NUMBERS: usize = 66;
 
 // The functions over slices. SAFETY of each: a slice has its length behind it, and exclusive borrows do not overlap.
 
 fn start(table: &[u8], first: u64, state: &mut [u64]) -> u64 {
     unsafe { sys::justrave_start(table.as_ptr(), table.len(), first, state.as_mut_ptr(), state.len()) }
+}
+
+fn start_numbers(numbers: &[u32], first: u64, state: &mut [u64]) -> u64 {
+    unsafe { sys::justrave_start_numbers(numbers.as_ptr(), numbers.len(), first, state.as_mut_ptr(), state.len()) }
 }
 
 fn post(state: &mut [u64], place: usize, count: u32) -> u64 {
@@ -45,6 +51,15 @@ fn write(state: &[u64], buffer: &mut [u8], answer: &mut [u64]) -> u64 {
     }
 }
 
+/// T as numbers, with zeros behind its two places.
+fn numbers_of_t() -> [u32; NUMBERS] {
+    let mut numbers = [0; NUMBERS];
+    for (number, byte) in numbers.iter_mut().zip(T) {
+        *number = u32::from(byte);
+    }
+    numbers
+}
+
 /// Table T started at slot 0, with one transfer waiting at place 1.
 fn started() -> [u64; WORDS] {
     let mut state = [UNTOUCHED; WORDS];
@@ -66,6 +81,7 @@ fn a_state_of_another_length() {
         let (mut answer, mut lead_answer) = ([UNTOUCHED; 2], [-7]);
         let mut log = vec![0xA5; 65_537];
         assert_eq!(start(&[], u64::MAX, &mut state), 255);
+        assert_eq!(start_numbers(&[0; NUMBERS], u64::MAX, &mut state), 255);
         assert_eq!(post(&mut state, 99, 1), 255);
         assert_eq!(slot(&mut state, &mut answer), 255);
         assert_eq!(run(&mut state, &mut log), 255);
@@ -111,6 +127,45 @@ fn a_refused_start_clears_the_words() {
     ] {
         let mut state = [UNTOUCHED; WORDS];
         assert_eq!(start(table, first, &mut state), outcome);
+        assert_eq!(state, [0; WORDS]);
+    }
+}
+
+#[test]
+fn a_start_from_numbers_is_the_start_from_bytes() {
+    let (mut from_numbers, mut from_bytes) = ([UNTOUCHED; WORDS], [UNTOUCHED; WORDS]);
+    assert_eq!(start_numbers(&numbers_of_t(), 70, &mut from_numbers), 0);
+    assert_eq!(start(&T, 70, &mut from_bytes), 0);
+    assert_eq!(from_numbers, from_bytes);
+}
+
+/// 255 comes ahead of 1 and 12, and changes nothing.
+#[test]
+fn numbers_of_another_length() {
+    for length in [0, 1, 10, NUMBERS - 1, NUMBERS + 1] {
+        let mut state = [UNTOUCHED; WORDS];
+        assert_eq!(start_numbers(&vec![0; length], u64::MAX, &mut state), 255);
+        assert_eq!(state, [UNTOUCHED; WORDS]);
+    }
+}
+
+#[test]
+fn a_refused_start_from_numbers_clears_the_words() {
+    for (at, number, first, outcome) in [
+        (0, 0, 0, 1),
+        (1, 17, 0, 2),
+        (NUMBERS - 1, 1, 0, 2),
+        (2, 5, 0, 3 + 256),
+        (7, 3, 0, 4 + 256 * 2),
+        (9, u32::MAX, 0, 5 + 256 * 2),
+        (6, 4, 0, 6),
+        (9, 6, u64::MAX, 7 + 256 * 2),
+        (9, 7, (1 << 62) + 1, 12),
+    ] {
+        let mut numbers = numbers_of_t();
+        numbers[at] = number;
+        let mut state = [UNTOUCHED; WORDS];
+        assert_eq!(start_numbers(&numbers, first, &mut state), outcome, "number {at} is {number}");
         assert_eq!(state, [0; WORDS]);
     }
 }
@@ -165,6 +220,27 @@ fn nothing_is_written_beside_lent_memory() {
     assert_eq!(answer, [UNTOUCHED, 10, 7, UNTOUCHED]);
     assert_eq!((log[0], &log[1..11], &log[11..]), (0xA5, &T[..], &[0xA5; 11][..]));
     assert_eq!((memory[0], memory[WORDS + 1]), (UNTOUCHED, UNTOUCHED));
+}
+
+/// With length 0 nothing is read or written behind a pointer, and it may be null.
+#[test]
+fn null_of_length_0_may_be_lent() {
+    use core::ptr::{null, null_mut};
+    let mut state = started();
+    let kept = state;
+    let (words, mut lead_answer, mut length) = (state.as_mut_ptr(), [-7], [UNTOUCHED]);
+    // SAFETY: each pointer has its length behind it, and behind the null ones that is nothing.
+    unsafe {
+        assert_eq!(sys::justrave_run(words, WORDS, null_mut(), 0), 0);
+        assert_eq!(sys::justrave_lead(words, WORDS, 1, null(), 0, lead_answer.as_mut_ptr(), 1), 0);
+        assert_eq!(sys::justrave_write(words, WORDS, null_mut(), 0, length.as_mut_ptr(), 1), 14);
+        assert_eq!(sys::justrave_slot(words, WORDS, null_mut(), 0), 255);
+        assert_eq!(sys::justrave_post(null_mut(), 0, 1, 1), 255);
+        assert_eq!(sys::justrave_start_numbers(null(), 0, 0, words, WORDS), 255);
+        assert_eq!((state, lead_answer, length), (kept, [0], [UNTOUCHED]));
+        assert_eq!(sys::justrave_start(null(), 0, 0, state.as_mut_ptr(), WORDS), 8);
+    }
+    assert_eq!(state, [0; WORDS]);
 }
 
 #[test]

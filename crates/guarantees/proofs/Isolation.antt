@@ -118,7 +118,7 @@ module _ (m : ℕ) (s : Arbiter) where
   unfolding cut withPost
   cut-posted-past p count h = rw take-set-le
 
-  -- a call that concernsFirst the first m places is judged by what the cut state keeps, and does there what it does on the whole
+  -- a call that concerns the first m places is judged by what the cut state keeps, and does there what it does on the whole
   cut-verdict : (c : Call) → concernsFirst m c ≡ true → ruleVerdict (cut m s) c ≡ ruleVerdict s c
   unfolding cut concernsFirst ruleVerdict
   cut-verdict (post p count) e = rw (getD-take m (s .accounts) p noAccount (ltb-true p m e))

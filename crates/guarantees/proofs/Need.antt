@@ -1,5 +1,5 @@
--- Proves Need: j transfers that wait together, entered with credit at least D, are granted within the finish figure, and so within
--- the table's own L. Assumes nothing.
+-- Proves Need: j transfers that wait together at a place are granted to it within its finish figure for j, whatever its credit, and so
+-- within the L of an accepted table's own need. Assumes nothing.
 use mathlib.Core.Path.{_≡_, refl, ap}
 use mathlib.Core.List.{List, [], _∷_}
 use mathlib.Core.Logic.{_⊎_, inl, inr}

@@ -1,0 +1,119 @@
+/*
+ * How much stack each exported call uses, in bytes: each is made on a stack of its own that was painted before. The table has all 16
+ * places, so that every loop and the recursive sums go as far as they can. What is counted begins where the caller's own frame ends,
+ * so that the return address and the red zone are in it.
+ */
+#define _XOPEN_SOURCE 700
+#include <stdio.h>
+#include <string.h>
+#include <ucontext.h>
+
+#include "justrave.h"
+
+#define PLACES 16
+#define STACK_BYTES 65536
+#define PAINT 0xA5
+
+static unsigned char stack[STACK_BYTES];
+static ucontext_t caller, callee;
+static unsigned char *top;
+
+static uint32_t numbers[JUSTRAVE_TABLE_NUMBERS];
+static uint8_t bytes[JUSTRAVE_TABLE_ROOM];
+static uint8_t log_bytes[JUSTRAVE_MAX_LOG];
+static uint64_t state[JUSTRAVE_STATE_WORDS];
+static uint64_t answer[2], length[1];
+static int64_t lead[1];
+
+static uint64_t start_numbers(void)
+{
+    return justrave_start_numbers(numbers, JUSTRAVE_TABLE_NUMBERS, 0, state, JUSTRAVE_STATE_WORDS);
+}
+static uint64_t write_bytes(void)
+{
+    return justrave_write(state, JUSTRAVE_STATE_WORDS, bytes, sizeof bytes, length, 1);
+}
+static uint64_t start(void)
+{
+    return justrave_start(bytes, length[0], 0, state, JUSTRAVE_STATE_WORDS);
+}
+static uint64_t post(void)
+{
+    return justrave_post(state, JUSTRAVE_STATE_WORDS, PLACES - 1, 3);
+}
+static uint64_t slot(void)
+{
+    return justrave_slot(state, JUSTRAVE_STATE_WORDS, answer, 2);
+}
+static uint64_t run(void)
+{
+    return justrave_run(state, JUSTRAVE_STATE_WORDS, log_bytes, sizeof log_bytes);
+}
+static uint64_t figures(void)
+{
+    return justrave_figures(state, JUSTRAVE_STATE_WORDS, PLACES - 1, 255, answer, 2);
+}
+static uint64_t lead_of(void)
+{
+    return justrave_lead(state, JUSTRAVE_STATE_WORDS, PLACES - 1, log_bytes, sizeof log_bytes, lead, 1);
+}
+
+static const struct {
+    const char *name;
+    uint64_t (*make)(void);
+} calls[] = {
+    {"start_numbers", start_numbers}, {"write", write_bytes}, {"start", start},     {"post", post},
+    {"slot", slot},                   {"run", run},           {"figures", figures}, {"lead", lead_of},
+};
+
+static uint64_t (*present)(void);
+static uint64_t outcome;
+
+static void on_painted_stack(void)
+{
+    top = (unsigned char *)__builtin_frame_address(0);
+    outcome = present();
+}
+
+/* The bytes between the lowest one that was written and the frame of the function that calls. */
+static size_t used_by(uint64_t (*make)(void))
+{
+    size_t lowest = 0;
+
+    memset(stack, PAINT, sizeof stack);
+    present = make;
+    getcontext(&callee);
+    callee.uc_stack.ss_sp = stack;
+    callee.uc_stack.ss_size = sizeof stack;
+    callee.uc_link = &caller;
+    makecontext(&callee, on_painted_stack, 0);
+    swapcontext(&caller, &callee);
+    while (stack[lowest] == PAINT) {
+        lowest++;
+    }
+    return (size_t)(top - &stack[lowest]);
+}
+
+int main(void)
+{
+    int failed = 0;
+
+    numbers[0] = 65535;
+    numbers[1] = PLACES;
+    for (int place = 0; place < PLACES; place++) {
+        uint32_t *row = &numbers[2 + 4 * place];
+        row[0] = 4095;
+        row[1] = 16777216;
+        row[2] = 255;
+        row[3] = 1073741824;
+    }
+    for (size_t i = 0; i < sizeof calls / sizeof calls[0]; i++) {
+        size_t used = used_by(calls[i].make);
+        printf("%s %zu\n", calls[i].name, used);
+        if (outcome != JUSTRAVE_ACCEPTED || used > JUSTRAVE_STACK) {
+            printf("%s: outcome %llu, and at most %d bytes are promised\n", calls[i].name, (unsigned long long)outcome, JUSTRAVE_STACK);
+            failed = 1;
+        }
+    }
+    return failed;
+}
