@@ -19,9 +19,10 @@ use Rattle.calls.specs.Grants.{toPlace}
 use Rattle.calls.specs.Calls.{grantOf, advanced, withCount, withPost, done, ruleVerdict, called}
 use Rattle.calls.specs.Log.{slotsState, slotsLog, slotsVerdict, runVerdict, run}
 use Rattle.replay.specs.Replay.{callOf, callsOf, madeCalls, answerWords, callsFrom, continued, replay}
-use Rattle.listing.specs.Text.{digitsOf, decimal, spaced, line}
-use Rattle.listing.specs.Lines.{header, endLine, refusedLine, slotLine}
-use Rattle.listing.specs.Listing.{posted, played, slotTold, slotStep, step, startRead, stateRead, begun, headed, firstStep, texts, listing}
+use Rattle.lines.specs.Text.{digitsOf, decimal, spaced, line}
+use Rattle.lines.specs.Lines.{header, endLine, refusedLine, slotLine}
+use Rattle.reads.specs.Reads.{startRead, stateRead, begun}
+use Rattle.listing.specs.Listing.{posted, played, slotTold, slotStep, step, headed, firstStep, texts, listing}
 use Rattle.cases.specs.Rows.{padded, stateOf, standsAt, waitsThroughout, reply}
 use Rattle.cases.specs.BenchRows.{tableT, tableTShort, tableRates, tableBurst, tableDenominator, tableFive, tableLate, threeEach, logNine, lateCalls, bytesT, benchRows}
 use Rattle.cases.specs.EdgeRows.{tableFirst, tableSecond, tablePastTwo, tablePastLast, tableLargest, tableBlocked, limitRows, orderRows, stateRows, ruleRows, replayRows}

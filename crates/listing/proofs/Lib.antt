@@ -1,8 +1,3 @@
--- The laws of the listing.
-pub mod Digits
-pub mod Writing
-pub mod Counting
-pub mod Beginnings
-pub mod InARow
+-- The laws of the listing's steps.
+pub mod Posting
 pub mod Telling
-pub mod Progress

@@ -27,12 +27,13 @@ use Rattle.calls.specs.declared.slot.Grant.{Grant}
 use Rattle.calls.specs.declared.slot.Grant.the-variants.{Nobody, Place}
 use Rattle.calls.specs.Calls.{Call, post, slot, done, called, ruleVerdict}
 use Rattle.calls.proofs.Verdicts.{outcome-table}
-use Rattle.listing.specs.Text.{decimal, spaced, line}
-use Rattle.listing.specs.Lines.{header, endLine, refusedLine, placeItem, creditItems, slotLine}
-use Rattle.listing.specs.Listing.{Step, more, last, countsRead, posted, played, slotTold, slotStep, step, begun, headed, firstStep}
+use Rattle.lines.specs.Text.{decimal, spaced, line}
+use Rattle.lines.specs.Lines.{header, endLine, refusedLine, placeItem, creditItems, slotLine}
+use Rattle.reads.specs.Reads.{countsRead, begun}
+use Rattle.listing.specs.Listing.{Step, more, last, posted, played, slotTold, slotStep, step, headed, firstStep}
 use Rattle.listing.specs.Room.{itemRoom, lineRoom, told, noRoom, written, inBuffer}
-use Rattle.listing.proofs.Digits.{decimal-few}
-use Rattle.listing.proofs.Writing.{spacedCredit, credits-all, item-length, two-length, slot-length}
+use Rattle.lines.proofs.Digits.{decimal-few}
+use Rattle.lines.proofs.Writing.{spacedCredit, credits-all, item-length, two-length, slot-length}
 
 -- ---- every text fits
 

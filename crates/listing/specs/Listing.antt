@@ -1,23 +1,22 @@
--- Document 01, the program slotlist: "reads standard input: the table's length in bytes as one number in groups, the table bytes, then for
--- each slot N post counts in groups. It starts at slot 0." What it is to print is `listing` of its input bytes. It is told in steps: each
--- has a text, and is the last one or hands on a state and the rest of the input. A step is the program's telling of its calls and no call
--- itself: a refusal is a line here. `limit` is the largest N throughout.
+-- What document 01's program slotlist is to print is `listing` of its input bytes. It is told in steps: each has a text, and is the last
+-- one or hands on a state and the rest of the input. A step is the program's telling of its calls and no call itself: a refusal is a line
+-- here. What a step reads of the input stands in reads. `limit` is the largest N throughout.
 use mathlib.Core.List.{List, [], _∷_, _++_}
 use Prim.Native.Nat.{ℕ, zero, suc}
-use lib.Dec.{leb, eqb}
-use lib.ListN.{length, take, drop}
+use lib.Dec.{eqb}
+use lib.ListN.{length}
 use Rattle.lists.specs.Choices.{pick}
 use Rattle.lists.specs.Runs.{Result}
 use Rattle.arbiter.specs.declared.state.Arbiter.{Arbiter}
-use Rattle.arbiter.specs.Refusals.{refusal, resolve}
+use Rattle.arbiter.specs.Refusals.{refusal}
 use Rattle.arbiter.specs.Answers.{Answer, accepted, granted, idle, refused, unless}
 use Rattle.arbiter.specs.State.{sound}
-use Rattle.arbiter.specs.Start.{noState, start}
-use Rattle.arbiter.specs.Input.{inputVerdict}
-use Rattle.table_bytes.specs.Reading.{Read, read, stop, next, numberRead, itemsRead, TableRead, readTable}
+use Rattle.arbiter.specs.Start.{noState}
+use Rattle.table_bytes.specs.Reading.{Read, read, stop}
 use Rattle.calls.specs.declared.slot.Grant.the-variants.{Nobody, Place}
 use Rattle.calls.specs.Calls.{post, slot, called}
-use Rattle.listing.specs.Lines.{header, endLine, refusedLine, slotLine}
+use Rattle.lines.specs.Lines.{header, endLine, refusedLine, slotLine}
+use Rattle.reads.specs.Reads.{countsRead, begun}
 
 pub data Step : Type 0 where
   -- print the text, and go on from this state with the rest of the input
@@ -26,10 +25,6 @@ pub data Step : Type 0 where
   last : (text : List ℕ) → Arbiter → Step
 
 -- ---- a slot
-
--- "All N counts of a slot are read before the first is posted."
-abbrev pub countsRead : (n : ℕ) → List ℕ → Read (List ℕ)
-countsRead n bytes = itemsRead (λ p rest. numberRead rest) n 0 bytes
 
 -- the counts are posted from place p on, until one is refused
 unfoldable pub posted : ℕ → Arbiter → (p : ℕ) → (counts : List ℕ) → Result Arbiter Answer
@@ -52,6 +47,7 @@ slotTold before (idle stamp) after rest = more (slotLine stamp Nobody after) aft
 slotTold before (refused why) after rest = last (refusedLine why) before
 slotTold before accepted after rest = last [] before
 
+-- "All N counts of a slot are read before the first is posted."
 unfoldable pub slotStep : ℕ → Arbiter → Read (List ℕ) → Step
 slotStep limit s (read counts rest) = let done = played limit s counts in slotTold s (done .answer) (done .state) rest
 slotStep limit s (stop why) = last (refusedLine why) s
@@ -66,23 +62,6 @@ step limit s rest =
     (last (refusedLine (refusal 23)) s)
 
 -- ---- the beginning
-
--- the table starts at slot 0, or is refused
-unfoldable pub startRead : ℕ → TableRead → (rest : List ℕ) → Read Arbiter
-startRead limit r rest =
-    unless (r .answer) stop
-    (let started = start limit (r .table) 0 in
-    unless (started .answer) stop (read (started .state) rest))
-
--- the table's length, which may not pass the input (8), and so many bytes of table
-unfoldable pub stateRead : ℕ → (input : List ℕ) → Read Arbiter
-stateRead limit input =
-    next (numberRead input) λ size rest.
-    pick (leb size (length rest)) (startRead limit (readTable limit (take size rest)) (drop size rest)) (stop (refusal 8))
-
--- "13 is tested first."
-unfoldable pub begun : ℕ → (input : List ℕ) → Read Arbiter
-begun limit input = resolve (inputVerdict (length input)) (stateRead limit input) stop
 
 -- "The header is always the first line, also before a refusal."
 unfoldable pub headed : ℕ → Read Arbiter → Step

@@ -10,7 +10,7 @@ use Rattle.arbiter.specs.declared.state.Arbiter.{Arbiter}
 use Rattle.listing.specs.declared.steps.Told.{Told}
 use Rattle.listing.specs.declared.steps.Told.the-variants.{More, Last, NoRoom}
 use Rattle.listing.specs.declared.steps.StepResult.{StepResult}
-use Rattle.listing.specs.Text.{maxEarlier}
+use Rattle.lines.specs.Text.{maxEarlier}
 use Rattle.listing.specs.Listing.{Step, more, last}
 
 -- an item: its digits, and the space or the line feed behind it

@@ -1,8 +1,4 @@
-// What the program slotlist prints: texts in a lent buffer, the counts of a slot, the slot that they belong to, the beginning, and the steps that use them.
+// What the program slotlist prints: the slot that some counts belong to, and the steps, each of which puts its text in a lent buffer.
 
-mod beginning;
-mod counts;
-mod lines;
 mod playing;
 pub mod steps;
-mod text;

@@ -1,12 +1,4 @@
 // The steps of the program: each puts its text at the start of a lent buffer, and hands on the state and how much of the input it took.
-use crate::beginning::Beginning;
-use crate::beginning::begin;
-use crate::counts::Counted;
-use crate::counts::read_counts;
-use crate::lines::put_end;
-use crate::lines::put_header;
-use crate::lines::put_refused;
-use crate::lines::put_slot;
 use crate::playing::play;
 use arbiter::refusals::Cause;
 use arbiter::refusals::StateRefusal;
@@ -15,6 +7,14 @@ use arbiter::state::Arbiter;
 use calls::slot::Grant;
 use calls::slot::SlotAnswer;
 use calls::slot::SlotResult;
+use lines::lines::put_end;
+use lines::lines::put_header;
+use lines::lines::put_refused;
+use lines::lines::put_slot;
+use reads::beginning::Beginning;
+use reads::beginning::begin;
+use reads::counts::Counted;
+use reads::counts::read_counts;
 ghost use mathlib.Core.Path.{_≡_};
 ghost use mathlib.Core.Bool.{true};
 ghost use mathlib.Core.List.{List};
@@ -25,8 +25,9 @@ ghost use Rattle.arbiter.specs.Refusals.{refusalOf};
 ghost use Rattle.arbiter.specs.State.{sound};
 ghost use Rattle.arbiter.specs.Start.{noState};
 ghost use Rattle.calls.specs.Calls.{slotAnswerOf};
-ghost use Rattle.listing.specs.Lines.{refusedLine};
-ghost use Rattle.listing.specs.Listing.{last, slotTold, slotStep, countsRead, step, firstStep};
+ghost use Rattle.lines.specs.Lines.{refusedLine};
+ghost use Rattle.reads.specs.Reads.{countsRead};
+ghost use Rattle.listing.specs.Listing.{last, slotTold, slotStep, step, firstStep};
 ghost use Rattle.listing.specs.Room.{lineRoom, inBuffer, written, outcomeOf, takenBy, wroteBy};
 
 // Room for any step's text: a line has at most a stamp, a place and a credit to each place, of 20 digits and a byte behind them.

@@ -1,5 +1,4 @@
--- The laws of a table's bytes, and the round trip.
+-- The laws of a table's bytes.
 pub mod Readings
 pub mod Writings
 pub mod Accepted
-pub mod RoundTrip

@@ -1,4 +1,3 @@
--- A table's bytes: what reading and writing them come to, and that the two are inverse.
+-- A table's bytes: what reading and writing them come to.
 pub mod Reading
 pub mod Writing
-pub mod RoundTrip

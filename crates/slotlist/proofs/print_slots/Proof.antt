@@ -7,7 +7,7 @@ use borrow.Author.Needs.{needs}
 use borrow.Rule.Slice.PartAt.{part-to-end}
 use lib.ListN.{length, take, drop, length-drop}
 use lib.Seq.{length-take-le}
-use Rattle.listing.proofs.Progress.{more-takes, no-room}
+use Rattle.in_a_row.proofs.Progress.{more-takes, no-room}
 use Rattle.slotlist.proofs.print_slots.Statement.{statement}
 use Rattle.slotlist.proofs.print_slots.Tie as tie
 

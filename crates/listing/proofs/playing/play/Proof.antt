@@ -2,7 +2,7 @@
 use mathlib.Core.Path.{ap}
 use borrow.Author.Needs.{needs}
 use Rattle.calls.specs.Calls.{postAnswerOf}
-use Rattle.listing.proofs.Counting.{played-slot, played-stop}
+use Rattle.listing.proofs.Posting.{played-slot, played-stop}
 use Rattle.listing.proofs.playing.play.Statement.{statement}
 use Rattle.listing.proofs.playing.play.Tie as tie
 

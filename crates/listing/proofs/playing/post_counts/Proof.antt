@@ -6,7 +6,7 @@ use borrow.Author.Needs.{needs}
 use lib.ListN.{length}
 use Rattle.arbiter.specs.Limits.{maxPlaces}
 use Rattle.calls.specs.Calls.{postAnswerOf}
-use Rattle.listing.proofs.Counting.{Posting, posting-none, posting-next, posting-stop, posting-end}
+use Rattle.listing.proofs.Posting.{Posting, posting-none, posting-next, posting-stop, posting-end}
 use Rattle.listing.proofs.playing.post_counts.Statement.{statement}
 use Rattle.listing.proofs.playing.post_counts.Tie as tie
 

@@ -9,9 +9,9 @@ use Rattle.arbiter.specs.Refusals.{refusal, refusalOf}
 use Rattle.arbiter.specs.Start.{noState}
 use Rattle.listing.proofs.Telling.{header-fits, without-room, with-room, first-begins, first-refused, told-text}
 use Rattle.lists.proofs.Putting.{put-first, put-next, put-inside, put-room, put-length}
-use Rattle.listing.specs.Lines.{header, refusedLine}
+use Rattle.lines.specs.Lines.{header, refusedLine}
 use Rattle.listing.specs.Listing.{more, last, firstStep}
-use Rattle.listing.specs.Parts.{begunAs}
+use Rattle.reads.specs.Parts.{begunAs}
 use Rattle.listing.specs.Room.{noRoom}
 use Rattle.listing.proofs.steps.first_step.Statement.{statement}
 use Rattle.listing.proofs.steps.first_step.Tie as tie

@@ -4,7 +4,7 @@ use native.Mathlib.Omega.{arith}
 use borrow.Author.Needs.{needs}
 use lib.Seq.{length-take-le}
 use Rattle.listing.proofs.Telling.{sound-few, played-few, slot-stopped, slot-played}
-use Rattle.listing.specs.Parts.{countedOf}
+use Rattle.reads.specs.Parts.{countedOf}
 use Rattle.listing.specs.Room.{written}
 use Rattle.listing.proofs.steps.play_slot.Statement.{statement}
 use Rattle.listing.proofs.steps.play_slot.Tie as tie

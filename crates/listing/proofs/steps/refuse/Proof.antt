@@ -3,7 +3,7 @@ use mathlib.Core.Path.{refl}
 use borrow.Author.Needs.{needs}
 use Rattle.arbiter.specs.Refusals.{refusalOf}
 use Rattle.listing.proofs.Telling.{refused-fits, told-text, wrote-inside}
-use Rattle.listing.specs.Lines.{refusedLine}
+use Rattle.lines.specs.Lines.{refusedLine}
 use Rattle.listing.specs.Listing.{last}
 use Rattle.listing.proofs.steps.refuse.Statement.{statement}
 use Rattle.listing.proofs.steps.refuse.Tie as tie

@@ -4,7 +4,7 @@ use native.Mathlib.Omega.{arith}
 use borrow.Author.Needs.{needs}
 use borrow.Author.Tests.{not-true, not-false}
 use Rattle.listing.proofs.Telling.{without-room, with-room, step-unsound, step-end, step-slot, end-fits, told-text, wrote-inside}
-use Rattle.listing.specs.Lines.{endLine}
+use Rattle.lines.specs.Lines.{endLine}
 use Rattle.listing.specs.Listing.{last}
 use Rattle.listing.proofs.steps.step.Statement.{statement}
 use Rattle.listing.proofs.steps.step.Tie as tie

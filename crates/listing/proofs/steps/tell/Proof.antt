@@ -4,7 +4,7 @@ use borrow.Author.Needs.{needs}
 use lib.ListN.{drop}
 use Rattle.calls.specs.declared.slot.Grant.the-variants.{Nobody, Place}
 use Rattle.listing.proofs.Telling.{slot-fits, told-text, wrote-inside}
-use Rattle.listing.specs.Lines.{slotLine}
+use Rattle.lines.specs.Lines.{slotLine}
 use Rattle.listing.specs.Listing.{more, slotTold}
 use Rattle.listing.proofs.steps.tell.Statement.{statement}
 use Rattle.listing.proofs.steps.tell.Tie as tie

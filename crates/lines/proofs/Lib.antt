@@ -1,0 +1,3 @@
+-- The laws of the texts.
+pub mod Digits
+pub mod Writing

@@ -1,0 +1,41 @@
+-- Document 01's lines: "It prints the header `slot place credits`; per slot the stamp, the granted place or -, and the credits after the
+-- slot from place 0 on; at a clean end, `end` and the number of slots." And: "A refusal prints a line of `refused`, a space and the number
+-- alone, and stops".
+use mathlib.Core.List.{List, [], _∷_, map}
+use Prim.Native.Nat.{ℕ}
+use lib.ListN.{take}
+use Rattle.arbiter.specs.declared.refusals.Refusal.{Refusal}
+use Rattle.arbiter.specs.declared.state.Account.{Account}
+use Rattle.arbiter.specs.declared.state.Arbiter.{Arbiter}
+use Rattle.arbiter.specs.State.{credit}
+use Rattle.calls.specs.declared.slot.Grant.{Grant}
+use Rattle.calls.specs.declared.slot.Grant.the-variants.{Nobody, Place}
+use Rattle.lines.specs.Text.{decimal, line}
+
+-- slot, place, credits
+unfoldable pub header : List ℕ
+header = line (115 ∷ 108 ∷ 111 ∷ 116 ∷ []) ((112 ∷ 108 ∷ 97 ∷ 99 ∷ 101 ∷ []) ∷ (99 ∷ 114 ∷ 101 ∷ 100 ∷ 105 ∷ 116 ∷ 115 ∷ []) ∷ [])
+
+-- end, and the number of slots
+unfoldable pub endLine : (slots : ℕ) → List ℕ
+endLine slots = line (101 ∷ 110 ∷ 100 ∷ []) (decimal slots ∷ [])
+
+-- refused, and the number alone: no place
+unfoldable pub refusedLine : Refusal → List ℕ
+refusedLine r = line (114 ∷ 101 ∷ 102 ∷ 117 ∷ 115 ∷ 101 ∷ 100 ∷ []) (decimal (r .number) ∷ [])
+
+-- the place granted, or -
+abbrev pub placeItem : Grant → List ℕ
+placeItem Nobody = 45 ∷ []
+placeItem (Place p) = decimal p
+
+-- the credits from place 0 on
+abbrev pub creditItem : Account → List ℕ
+creditItem a = decimal (credit a)
+
+abbrev pub creditItems : Arbiter → List (List ℕ)
+creditItems s = map creditItem (take (s .table .count) (s .accounts))
+
+-- the line of a slot: its stamp, whom it granted, and the credits of the state after it
+unfoldable pub slotLine : (stamp : ℕ) → Grant → (after : Arbiter) → List ℕ
+slotLine stamp g after = line (decimal stamp) (placeItem g ∷ creditItems after)

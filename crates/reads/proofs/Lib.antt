@@ -1,0 +1,3 @@
+-- The laws of what is read.
+pub mod Counting
+pub mod Beginnings

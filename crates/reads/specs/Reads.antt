@@ -1,0 +1,39 @@
+-- Document 01, the program slotlist: it "reads standard input: the table's length in bytes as one number in groups, the table bytes, then for
+-- each slot N post counts in groups. It starts at slot 0." What is read comes to a value and the rest of the input, or to a refusal.
+-- `limit` is the largest N throughout.
+use mathlib.Core.List.{List}
+use Prim.Native.Nat.{ℕ}
+use lib.Dec.{leb}
+use lib.ListN.{length, take, drop}
+use Rattle.lists.specs.Choices.{pick}
+use Rattle.arbiter.specs.declared.state.Arbiter.{Arbiter}
+use Rattle.arbiter.specs.Refusals.{refusal, resolve}
+use Rattle.arbiter.specs.Answers.{unless}
+use Rattle.arbiter.specs.Start.{start}
+use Rattle.arbiter.specs.Input.{inputVerdict}
+use Rattle.table_bytes.specs.Reading.{Read, read, stop, next, numberRead, itemsRead, TableRead, readTable}
+
+-- ---- the beginning
+
+-- the table starts at slot 0, or is refused
+unfoldable pub startRead : ℕ → TableRead → (rest : List ℕ) → Read Arbiter
+startRead limit r rest =
+    unless (r .answer) stop
+    (let started = start limit (r .table) 0 in
+    unless (started .answer) stop (read (started .state) rest))
+
+-- the table's length, which may not pass the input (8), and so many bytes of table
+unfoldable pub stateRead : ℕ → (input : List ℕ) → Read Arbiter
+stateRead limit input =
+    next (numberRead input) λ size rest.
+    pick (leb size (length rest)) (startRead limit (readTable limit (take size rest)) (drop size rest)) (stop (refusal 8))
+
+-- "13 is tested first."
+unfoldable pub begun : ℕ → (input : List ℕ) → Read Arbiter
+begun limit input = resolve (inputVerdict (length input)) (stateRead limit input) stop
+
+-- ---- a slot
+
+-- its N counts, each read from the bytes that the one before it left
+abbrev pub countsRead : (n : ℕ) → List ℕ → Read (List ℕ)
+countsRead n bytes = itemsRead (λ p rest. numberRead rest) n 0 bytes

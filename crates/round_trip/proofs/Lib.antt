@@ -1,0 +1,2 @@
+-- The round trip, from the laws of table_bytes.
+pub mod RoundTrip

@@ -1,0 +1,262 @@
+-- Bytes written from an accepted table read back as it; accepted bytes written again are the same bytes. Assumes nothing.
+use mathlib.Core.Path.{_≡_, refl, ap, ap₂, sym, subst, _∙_}
+use mathlib.Core.Bool.{true}
+use mathlib.Core.List.{List, [], _∷_, _++_, append-nil, append-assoc}
+use Prim.Native.Nat.{ℕ, zero, suc, _≤_}
+use native.Mathlib.Omega.{arith}
+use borrow.Author.Tests.{le-leb, eqb-true}
+use lib.ListN.{length, take, drop, replicate, take-append-drop}
+use lib.Seq.{drop-append-seam, take-at, length-take-le}
+use Rattle.lists.specs.Sums.{joined, every}
+use Rattle.lists.specs.Overwriting.{writtenOver}
+use Rattle.lists.proofs.Tests.{and-true}
+use Rattle.lists.proofs.Sums.{joined-append}
+use Rattle.groups.specs.Groups.{maxNumber, numberBytes}
+use Rattle.groups.specs.Inverse.{Bytes}
+use Rattle.groups.proofs.Inverse.{bytes-append, five-bytes}
+use Rattle.groups.proofs.Inverse as groups
+use Rattle.arbiter.specs.declared.refusals.Refusal.{Refusal}
+use Rattle.arbiter.specs.declared.table.Requestor.{Requestor}
+use Rattle.arbiter.specs.declared.table.Table.{Table}
+use Rattle.arbiter.specs.Refusals.{Verdict, faultless, fault, gate, then, resolve}
+use Rattle.arbiter.specs.Answers.{accepted}
+use Rattle.arbiter.specs.Answers as answers
+use Rattle.arbiter.specs.Table.{noRequestor, requestorClear, requestorsOf, tableOf, Bounds, denominatorBounds, countBounds, rateBounds, burstBounds, needBounds, withinBounds, heldTo, rowVerdict, eachPlace, tailVerdict, rateSumVerdict, tableVerdict}
+use Rattle.arbiter.specs.Figures.{finishesVerdict, admissionVerdict}
+use Rattle.arbiter.proofs.Checks.{gate-open, then-open, held-open, Passed, passed}
+use Rattle.table_bytes.specs.Reading.{Read, read, stop, next, fieldRead, itemsRead, rowRead, rowsRead, placesRead, numbersRead, lastVerdict, TableRead, accept, refuse, settled, readTable}
+use Rattle.table_bytes.specs.Writing.{rowNumbers, tableNumbers, tableBytes, writeVerdict, wrote, refused, TableWritten, writeTable}
+use Rattle.table_bytes.proofs.Accepted.{Spent, spent-more, field-open, field-spent, next-open, read-same, rows-open, table-rows, table-admission}
+use Rattle.round_trip.specs.RoundTrip.{Bytes-read-back, Written-reads-back, Read-writes-back}
+
+-- ---- written, then read
+
+-- a number ahead of others
+field-reads : (b : Bounds) (x : ℕ) (more rest : List ℕ) → b .high ≤ maxNumber → heldTo b x ≡ faultless
+    → fieldRead b (joined numberBytes (x ∷ more) ++ rest) ≡ read x (joined numberBytes more ++ rest)
+unfolding fieldRead next joined
+field-reads b x more rest small held =
+    let tail = joined numberBytes more ++ rest in
+    let back = groups.number-reads-back x tail (omega (arith, held-open b x held .1)) in
+    rw (append-assoc (numberBytes x) (joined numberBytes more) rest, back, held) (ap (λ l. read x l) (drop-append-seam (numberBytes x) tail))
+
+none-left : (rest : List ℕ) → joined numberBytes [] ++ rest ≡ rest
+unfolding joined
+none-left rest = refl
+
+row-reads : (d p : ℕ) (r : Requestor) (rest : List ℕ) → d ≤ maxNumber → rowVerdict d p r ≡ faultless
+    → rowRead d p (joined numberBytes (rowNumbers r) ++ rest) ≡ read r rest
+unfolding rowRead next rowVerdict
+row-reads d p r rest small ok =
+    let n = then-open _ _ ok in
+    let b = then-open _ _ (n .1) in
+    let j = then-open _ _ (b .1) in
+    rw (
+      field-reads (rateBounds d p) (r .rate) (r .burst ∷ r .need .0 ∷ r .within .0 ∷ []) rest small (n .0),
+      field-reads (burstBounds d p) (r .burst) (r .need .0 ∷ r .within .0 ∷ []) rest (omega arith) (b .0),
+      field-reads (needBounds p) (r .need .0) (r .within .0 ∷ []) rest (omega arith) (j .0),
+      field-reads (withinBounds p) (r .within .0) [] rest (omega arith) (j .1),
+      none-left rest,
+    )
+
+rows-reads : (d p : ℕ) (rows : List Requestor) (rest : List ℕ) → d ≤ maxNumber → eachPlace (rowVerdict d) p rows ≡ faultless
+    → rowsRead (length rows) d p (joined numberBytes (joined rowNumbers rows) ++ rest) ≡ read rows rest
+unfolding itemsRead next joined eachPlace
+rows-reads d p [] rest small ok = refl
+rows-reads d p (r ∷ rows) rest small ok =
+    let checked = then-open _ _ ok in
+    rw (
+      joined-append numberBytes (rowNumbers r) (joined rowNumbers rows),
+      append-assoc (joined numberBytes (rowNumbers r)) (joined numberBytes (joined rowNumbers rows)) rest,
+      row-reads d p r (joined numberBytes (joined rowNumbers rows) ++ rest) small (checked .0),
+      rows-reads d (suc p) rows rest small (checked .1),
+    )
+
+-- a clear row is all 0, and so the rows past place N−1 of a table that passes check 2 are those of an array of rows that are 0
+clear-none : (r : Requestor) → requestorClear r ≡ true → r ≡ noRequestor
+clear-none r e =
+    let n = and-true _ _ e in
+    let b = and-true _ _ (n .1) in
+    let j = and-true _ _ (b .1) in
+    ap (λ x. record { rate = x; burst = r .burst; need = r .need; within = r .within }) (eqb-true _ _ (n .0))
+    ∙ ap (λ x. record { rate = 0; burst = x; need = r .need; within = r .within }) (eqb-true _ _ (b .0))
+    ∙ ap (λ x. record { rate = 0; burst = 0; need = record { 0 = x }; within = r .within }) (eqb-true _ _ (j .0))
+    ∙ ap (λ x. record { rate = 0; burst = 0; need = record { 0 = 0 }; within = record { 0 = x } }) (eqb-true _ _ (j .1))
+
+clear-rows : (n : ℕ) (rows : List Requestor) → every requestorClear (drop n rows) ≡ true → drop n rows ≡ drop n (replicate (length rows) noRequestor)
+unfolding every
+clear-rows zero [] e = refl
+clear-rows (suc n) [] e = refl
+clear-rows zero (r ∷ rows) e =
+    let both = and-true (requestorClear r) (every requestorClear rows) e in
+    ap₂ (λ x l. x ∷ l) (clear-none r (both .0)) (clear-rows zero rows (both .1))
+clear-rows (suc n) (r ∷ rows) e = clear-rows n rows e
+
+-- a table is made of its D, its N and its first N rows
+table-whole : (t : Table) → t .count ≤ length (t .requestors) → every requestorClear (drop (t .count) (t .requestors)) ≡ true
+    → tableOf (length (t .requestors)) (t .denominator) (t .count) (requestorsOf t) ≡ t
+unfolding tableOf writtenOver
+table-whole t h clear =
+    let rows = t .requestors in
+    let zeros = replicate (length rows) noRequestor in
+    let all : requestorsOf t ++ drop (length (requestorsOf t)) zeros ≡ rows =
+    ap (λ k. requestorsOf t ++ drop k zeros) (length-take-le (t .count) rows h)
+    ∙ ap (λ l. requestorsOf t ++ l) (sym (clear-rows (t .count) rows clear)) ∙ take-append-drop (t .count) rows in
+    ap (λ l. record { denominator = t .denominator; count = t .count; requestors = l }) all
+
+-- admission is checks 1 to 6, and then 7
+admitted-both : (limit : ℕ) (t : Table) → admissionVerdict limit t ≡ faultless → (tableVerdict limit t ≡ faultless) × (finishesVerdict t ≡ faultless)
+unfolding admissionVerdict
+admitted-both limit t ok = then-open _ _ ok
+
+table-numbers-read : (limit : ℕ) (t : Table) → limit ≤ maxNumber → length (t .requestors) ≡ limit → Passed limit t → numbersRead limit (tableBytes t ++ []) ≡ read t []
+unfolding numbersRead placesRead next tableBytes tableNumbers
+table-numbers-read limit t small long ok =
+    let few : t .count ≤ length (t .requestors) = omega (arith, held-open (countBounds limit) (t .count) (ok .count) .1) in
+    let rows = rows-reads (t .denominator) 0 (requestorsOf t) [] (omega (arith, held-open denominatorBounds (t .denominator) (ok .denominator) .1)) (ok .rows) in
+    let all = rw (length-take-le (t .count) (t .requestors) few) at rows in
+    let whole = rw long at (table-whole t few (ok .clear)) in
+    rw (
+      field-reads denominatorBounds (t .denominator) (t .count ∷ joined rowNumbers (requestorsOf t)) [] (omega arith) (ok .denominator),
+      field-reads (countBounds limit) (t .count) (joined rowNumbers (requestorsOf t)) [] small (ok .count),
+      all,
+    )
+    (ap (λ x. read x []) whole)
+
+table-reads : (limit : ℕ) (t : Table) → limit ≤ maxNumber → length (t .requestors) ≡ limit → admissionVerdict limit t ≡ faultless
+    → readTable limit (tableBytes t) ≡ accept t
+unfolding readTable settled lastVerdict gate then
+table-reads limit t small long ok =
+    let both = admitted-both limit t ok in
+    let p = passed limit t (both .0) in
+    let back = ap (numbersRead limit) (sym (append-nil (tableBytes t))) ∙ table-numbers-read limit t small long p in
+    rw (back, p .sum, both .1)
+
+-- ---- in bytes
+
+field-bytes : (b : Bounds) (x : ℕ) (more : List ℕ) → b .high ≤ maxNumber → heldTo b x ≡ faultless → Bytes (joined numberBytes more) → Bytes (joined numberBytes (x ∷ more))
+unfolding joined
+field-bytes b x more small held all = bytes-append (numberBytes x) (joined numberBytes more) (five-bytes x (omega (arith, held-open b x held .1)) .0) all
+
+rows-bytes : (d p : ℕ) (rows : List Requestor) → d ≤ maxNumber → eachPlace (rowVerdict d) p rows ≡ faultless → Bytes (joined numberBytes (joined rowNumbers rows))
+unfolding joined eachPlace rowVerdict
+rows-bytes d p [] small ok = λ i. omega arith
+rows-bytes d p (r ∷ rows) small ok =
+    let checked = then-open _ _ ok in
+    let n = then-open _ _ (checked .0) in
+    let b = then-open _ _ (n .1) in
+    let j = then-open _ _ (b .1) in
+    let more = joined rowNumbers rows in
+    field-bytes (rateBounds d p) (r .rate) (r .burst ∷ r .need .0 ∷ r .within .0 ∷ more) small (n .0)
+    (field-bytes (burstBounds d p) (r .burst) (r .need .0 ∷ r .within .0 ∷ more) (omega arith) (b .0)
+    (field-bytes (needBounds p) (r .need .0) (r .within .0 ∷ more) (omega arith) (j .0)
+    (field-bytes (withinBounds p) (r .within .0) more (omega arith) (j .1) (rows-bytes d (suc p) rows small (checked .1)))))
+
+table-bytes-are : (limit : ℕ) (t : Table) → limit ≤ maxNumber → Passed limit t → Bytes (tableBytes t)
+unfolding tableBytes tableNumbers
+table-bytes-are limit t small ok =
+    let rows = joined rowNumbers (requestorsOf t) in
+    let fits : t .denominator ≤ maxNumber = omega (arith, held-open denominatorBounds (t .denominator) (ok .denominator) .1) in
+    field-bytes denominatorBounds (t .denominator) (t .count ∷ rows) (omega arith) (ok .denominator)
+    (field-bytes (countBounds limit) (t .count) rows small (ok .count) (rows-bytes (t .denominator) 0 (requestorsOf t) fits (ok .rows)))
+
+pub bytes-read-back : Bytes-read-back
+bytes-read-back limit t small long ok = (table-bytes-are limit t small (passed limit t (admitted-both limit t ok .0)), table-reads limit t small long ok)
+
+-- ---- an accepted writing
+
+record Wrote (limit : ℕ) (t : Table) (old : List ℕ) (k : ℕ) : Type 0 where
+  admitted : admissionVerdict limit t ≡ faultless
+  count : length (tableBytes t) ≡ k
+  buffer : writeTable limit t old .buffer ≡ writtenOver (tableBytes t) old
+
+wrote-open : (limit : ℕ) (t : Table) (old : List ℕ) (k : ℕ) → writeTable limit t old .answer ≡ wrote k → Wrote limit t old k
+unfolding writeTable writeVerdict
+wrote-open limit t old k e = told (writeVerdict limit t (length old)) refl e where
+  told : (v : Verdict) → writeVerdict limit t (length old) ≡ v
+      → resolve {X = TableWritten} v (record { answer = wrote (length (tableBytes t)); buffer = writtenOver (tableBytes t) old }) (λ r. record { answer = refused r; buffer = old }) .answer ≡ wrote k
+      → Wrote limit t old k
+  told faultless f g =
+      let count : length (tableBytes t) ≡ k = cc in
+      record { admitted = then-open _ _ f .0; count = count; buffer = rw f }
+  told (fault r) f g = let z : _≡_ {A = ℕ} 0 1 = cc in absurd (omega arith)
+
+pub written-reads-back : Written-reads-back
+unfolding writtenOver
+written-reads-back limit t old k small long e =
+    let w = wrote-open limit t old k e in
+    let bytes : take k (writeTable limit t old .buffer) ≡ tableBytes t =
+    ap (take k) (w .buffer) ∙ take-at (tableBytes t) (drop (length (tableBytes t)) old) k (w .count) in
+    rw bytes (table-reads limit t small long (w .admitted))
+
+-- ---- read, then written
+
+refused-accepted : {X : Type 0} (limit : ℕ) (why : Refusal) (t : Table) → refuse limit why ≡ accept t → X
+refused-accepted limit why t e =
+    let answers : answers.refused why ≡ accepted = ap (λ (x : TableRead). x .answer) e in
+    let z : _≡_ {A = ℕ} 0 1 = cc in
+    absurd (omega arith)
+
+-- what an accepted reading took from its bytes
+record Opened (limit : ℕ) (bytes : List ℕ) (t : Table) : Type 0 where
+  d : ℕ
+  n : ℕ
+  rows : List Requestor
+  count : length rows ≡ n
+  table : tableOf limit d n rows ≡ t
+  admitted : admissionVerdict limit t ≡ faultless
+  spent : Spent (d ∷ n ∷ joined rowNumbers rows) bytes []
+
+-- nothing is left, and 6 and 7 pass
+last-open : (t : Table) (rest : List ℕ) → lastVerdict t rest ≡ faultless → (rest ≡ []) × (then (rateSumVerdict t) (finishesVerdict t) ≡ faultless)
+unfolding lastVerdict
+last-open t [] e = (refl, then-open _ _ e .1)
+last-open t (x ∷ rest) e = let none = eqb-true (suc (length rest)) 0 (gate-open _ _ _ (then-open _ _ e .0) .0) in absurd (omega (arith, none))
+
+settled-open : (limit : ℕ) (r : Read Table) (t : Table) → settled limit r ≡ accept t → (rest : List ℕ) × (r ≡ read t rest) × (lastVerdict t rest ≡ faultless)
+unfolding settled
+settled-open limit (read u rest) t e = told (lastVerdict u rest) refl e where
+  told : (v : Verdict) → lastVerdict u rest ≡ v → resolve v (accept u) (refuse limit) ≡ accept t → (l : List ℕ) × (read u rest ≡ read t l) × (lastVerdict t l ≡ faultless)
+  told faultless f g = let same : u ≡ t = ap (λ (x : TableRead). x .table) g in (rest, ap (λ x. read x rest) same, rw same at f)
+  told (fault why) f g = refused-accepted limit why t g
+settled-open limit (stop why) t e = refused-accepted limit why t e
+
+table-open : (limit : ℕ) (bytes : List ℕ) (t : Table) → readTable limit bytes ≡ accept t → Opened limit bytes t
+unfolding readTable numbersRead placesRead
+table-open limit bytes t e =
+    let (rest, whole, last) = settled-open limit (numbersRead limit bytes) t e in
+    let (none, checked) = last-open t rest last in
+    let d = next-open _ _ t rest whole in
+    let n = next-open _ _ t rest (d .second) in
+    let p = next-open _ _ t rest (n .second) in
+    let same = read-same _ t _ rest (p .second) in
+    let one = field-open denominatorBounds bytes (d .value) (d .left) (d .first) in
+    let two = field-open (countBounds limit) (d .left) (n .value) (n .left) (n .first) in
+    let rows = rows-open (n .value) (d .value) 0 (n .left) (p .value) (p .left) (p .first) in
+    let admission = table-admission limit (d .value) (n .value) (p .value) (rows .count) (one .held) (two .held) (rows .passes) in
+    let numbers = spent-more (d .value ∷ []) (n .value ∷ joined rowNumbers (p .value)) (field-spent one) (spent-more (n .value ∷ []) (joined rowNumbers (p .value)) (field-spent two) (rows .spent)) in
+    record {
+      d = d .value;
+      n = n .value;
+      rows = p .value;
+      count = rows .count;
+      table = same .0;
+      admitted = (rw (same .0) at admission) ∙ checked;
+      spent = subst (λ l. Spent (d .value ∷ n .value ∷ joined rowNumbers (p .value)) bytes l) (same .1 ∙ none) numbers;
+    }
+
+-- the table's bytes are those that it was read from
+table-bytes : {limit : ℕ} {bytes : List ℕ} {t : Table} → Bytes bytes → Opened limit bytes t → tableBytes t ≡ bytes
+unfolding tableBytes tableNumbers tableOf
+table-bytes {limit} {bytes} {t} all r =
+    let rows : requestorsOf (tableOf limit (r .d) (r .n) (r .rows)) ≡ r .rows = table-rows limit (r .d) (r .n) (r .rows) (r .count) in
+    let made : tableBytes (tableOf limit (r .d) (r .n) (r .rows)) ≡ joined numberBytes (r .d ∷ r .n ∷ joined rowNumbers (r .rows)) =
+    ap (λ l. joined numberBytes (r .d ∷ r .n ∷ joined rowNumbers l)) rows in
+    ap tableBytes (sym (r .table)) ∙ made ∙ sym (append-nil _) ∙ sym (r .spent .split all .0)
+
+pub read-writes-back : Read-writes-back
+unfolding writeTable writeVerdict then gate
+read-writes-back limit bytes t old all room e =
+    let r = table-open limit bytes t e in
+    let same = table-bytes all r in
+    rw (r .admitted, same, le-leb (length bytes) (length old) room)
