@@ -21,11 +21,11 @@ use Rattle.arbiter.specs.declared.table.Table.{Table}
 use Rattle.arbiter.specs.Refusals.{Verdict, faultless, fault, gate, then, resolve}
 use Rattle.arbiter.specs.Answers.{accepted}
 use Rattle.arbiter.specs.Answers as answers
-use Rattle.arbiter.specs.Table.{noRequestor, requestorClear, requestorsOf, tableOf, Bounds, denominatorBounds, countBounds, rateBounds, burstBounds, needBounds, withinBounds, heldTo, rowVerdict, eachPlace, tailVerdict, rateSumVerdict, tableVerdict}
+use Rattle.arbiter.specs.Table.{rowNumbers, noRequestor, requestorClear, requestorsOf, tableOf, Bounds, denominatorBounds, countBounds, rateBounds, burstBounds, needBounds, withinBounds, heldTo, rowVerdict, eachPlace, tailVerdict, rateSumVerdict, tableVerdict}
 use Rattle.arbiter.specs.Figures.{finishesVerdict, admissionVerdict}
 use Rattle.arbiter.proofs.Checks.{gate-open, then-open, held-open, Passed, passed}
 use Rattle.table_bytes.specs.Reading.{Read, read, stop, next, fieldRead, itemsRead, rowRead, rowsRead, placesRead, numbersRead, lastVerdict, TableRead, accept, refuse, settled, readTable}
-use Rattle.table_bytes.specs.Writing.{rowNumbers, tableNumbers, tableBytes, writeVerdict, wrote, refused, TableWritten, writeTable}
+use Rattle.table_bytes.specs.Writing.{tableNumbers, tableBytes, writeVerdict, wrote, refused, TableWritten, writeTable}
 use Rattle.table_bytes.proofs.Accepted.{Spent, spent-more, field-open, field-spent, next-open, read-same, rows-open, table-rows, table-admission}
 use Rattle.round_trip.specs.RoundTrip.{Bytes-read-back, Written-reads-back, Read-writes-back}
 

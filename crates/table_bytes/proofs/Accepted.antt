@@ -20,10 +20,9 @@ use Rattle.arbiter.specs.declared.refusals.Refusal.{Refusal}
 use Rattle.arbiter.specs.declared.table.Requestor.{Requestor}
 use Rattle.arbiter.specs.declared.table.Table.{Table}
 use Rattle.arbiter.specs.Refusals.{Verdict, faultless, fault, refusal, gate, then, resolve}
-use Rattle.arbiter.specs.Table.{noRequestor, requestorClear, requestorsOf, tableOf, Bounds, rateBounds, burstBounds, needBounds, withinBounds, denominatorBounds, countBounds, heldTo, rowVerdict, eachPlace, tailVerdict, rateSumVerdict, tableVerdict}
+use Rattle.arbiter.specs.Table.{rowNumbers, noRequestor, requestorClear, requestorsOf, tableOf, Bounds, rateBounds, burstBounds, needBounds, withinBounds, denominatorBounds, countBounds, heldTo, rowVerdict, eachPlace, tailVerdict, rateSumVerdict, tableVerdict}
 use Rattle.arbiter.specs.Figures.{finishesVerdict, admissionVerdict}
 use Rattle.table_bytes.specs.Reading.{Read, read, stop, next, readAs, fieldRead, itemsRead, rowRead, rowsRead, placesRead, lastVerdict, accept, refuse, settled}
-use Rattle.table_bytes.specs.Writing.{rowNumbers}
 use Rattle.table_bytes.proofs.Readings.{Took}
 
 -- ---- what comes next has something to be read from

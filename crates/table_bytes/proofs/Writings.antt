@@ -9,7 +9,7 @@ use lib.ListN.{length, getD, set, take, drop, length-append, length-take}
 use lib.Seq.{take-all, take-at, getD-take, length-take-le}
 use Rattle.lists.specs.Sums.{joined}
 use Rattle.lists.specs.Overwriting.{writtenOver}
-use Rattle.lists.proofs.Sums.{total-take-drop, total-most, joined-next, length-joined}
+use Rattle.lists.proofs.Sums.{total-take-drop, total-most, joined-next, length-joined, length-joined-same}
 use Rattle.lists.proofs.Overwriting.{stored-behind}
 use Rattle.lists.proofs.Putting.{Put, put-none, put-next, put-room}
 use Rattle.arbiter.specs.declared.refusals.Cause.{Cause}
@@ -19,20 +19,14 @@ use Rattle.arbiter.specs.declared.table.Requestor.{Requestor}
 use Rattle.arbiter.specs.declared.table.Table.{Table}
 use Rattle.arbiter.specs.Limits.{maxWithin}
 use Rattle.arbiter.specs.Refusals.{faultless, verdictOf, refusal, refusalOf, gate, then}
-use Rattle.arbiter.specs.Table.{noRequestor, requestorAt, requestorsOf, tableVerdict}
+use Rattle.arbiter.specs.Table.{rowNumbers, noRequestor, requestorAt, requestorsOf, tableVerdict}
 use Rattle.arbiter.specs.Figures.{admissionVerdict}
 use Rattle.arbiter.proofs.Checks.{fair}
 use Rattle.groups.specs.Groups.{maxLater, numberBytes, Filled, numberWritten}
 use Rattle.groups.proofs.Writings.{number-few, written-whole}
-use Rattle.table_bytes.specs.Writing.{rowNumbers, tableNumbers, tableBytes, writeVerdict, wrote, refused, TableWritten, writeTable}
+use Rattle.table_bytes.specs.Writing.{tableNumbers, tableBytes, writeVerdict, wrote, refused, TableWritten, writeTable}
 
 -- ---- the numbers of a table
-
--- four numbers to a row
-length-rows : (rows : List Requestor) → length (joined rowNumbers rows) ≡ 4 * length rows
-unfolding joined
-length-rows [] = refl
-length-rows (r ∷ rows) = omega (arith, length-rows rows)
 
 -- D, N, and the numbers of the first p rows
 abbrev pub numbersTo : Table → ℕ → List ℕ
@@ -40,7 +34,7 @@ numbersTo t p = t .denominator ∷ t .count ∷ joined rowNumbers (take p (t .re
 
 -- how many they are
 length-to : (t : Table) (p : ℕ) → p ≤ length (t .requestors) → length (numbersTo t p) ≡ 2 + 4 * p
-length-to t p h = omega (arith, length-rows (take p (t .requestors)), length-take-le p (t .requestors) h)
+length-to t p h = omega (arith, length-joined-same rowNumbers 4 (λ r. refl) (take p (t .requestors)), length-take-le p (t .requestors) h)
 
 module _ (t : Table) (old numbers : List ℕ) (p : ℕ) (e : numbers ≡ writtenOver (numbersTo t p) old) where
   -- one row more, stored behind them

@@ -8,18 +8,14 @@ use Rattle.lists.specs.Sums.{joined}
 use Rattle.lists.specs.Overwriting.{writtenOver}
 use Rattle.groups.specs.Groups.{numberBytes}
 use Rattle.arbiter.specs.declared.refusals.Refusal.{Refusal}
-use Rattle.arbiter.specs.declared.table.Requestor.{Requestor}
 use Rattle.arbiter.specs.declared.table.Table.{Table}
 use Rattle.arbiter.specs.Refusals.{Verdict, faultless, refusal, refusalOf, gate, then, resolve}
-use Rattle.arbiter.specs.Table.{requestorsOf}
+use Rattle.arbiter.specs.Table.{rowNumbers, requestorsOf}
 use Rattle.arbiter.specs.Figures.{admissionVerdict}
 use Rattle.table_bytes.specs.declared.writer.WriteAnswer as code
 use Rattle.table_bytes.specs.declared.writer.WriteAnswer.the-variants as code-answer
 
--- "The order is D, N, then n, b, j, L for each place."
-abbrev pub rowNumbers : Requestor → List ℕ
-rowNumbers r = r .rate ∷ r .burst ∷ r .need .0 ∷ r .within .0 ∷ []
-
+-- D, N, and the four numbers of each place
 unfoldable pub tableNumbers : Table → List ℕ
 tableNumbers t = t .denominator ∷ t .count ∷ joined rowNumbers (requestorsOf t)
 
