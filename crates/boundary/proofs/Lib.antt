@@ -1,4 +1,4 @@
--- The laws of a state's words, the round trip, what a call on lent words comes to, the claims, and the one proof that all rows pass.
+-- The laws of a state's words, the round trip, and what a call on lent words comes to.
 pub mod Items
 pub mod Words
 pub mod Filling
@@ -7,5 +7,3 @@ pub mod Fitting
 pub mod Boundary
 pub mod Places
 pub mod Asking
-pub mod Claims
-pub mod Rows

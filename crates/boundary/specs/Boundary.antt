@@ -47,7 +47,7 @@ abbrev pub wrongLength : ℕ
 wrongLength = 255
 
 -- A call on the state that the words are, or what comes of a lent state or answer of a wrong length. A word that its field cannot hold is no case
--- of its own: the call refuses such a state with 23 (Claims.Broken-words; Fits).
+-- of its own: the call refuses such a state with 23 (on_words/Claims.Broken-words; Fits).
 unfoldable pub onState : {X : Type 0} → ℕ → (words : List ℕ) → (answerFits : Bool) → (turned-down : X) → (Arbiter → X) → X
 onState limit words answerFits turned-down call = pick (rightLength limit words && answerFits) (call (wordsState limit words)) turned-down
 

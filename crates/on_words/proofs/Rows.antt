@@ -17,10 +17,10 @@ use Rattle.table_bytes.specs.Writing.{tableNumbers, tableBytes, writeVerdict, w
 use Rattle.calls.specs.Rule.{eligible, later, firstEligible, served, passed, after}
 use Rattle.calls.specs.Calls.{grantOf, advanced, withCount, withPost, done, ruleVerdict, called}
 use Rattle.calls.specs.Log.{slotsState, slotsLog, slotsVerdict, runVerdict, run}
 use Rattle.boundary.specs.Words.{stateWords, placesFrom, wordsState}
 use Rattle.boundary.specs.Numbers.{numbersTable}
 use Rattle.boundary.specs.Boundary.{refusalCode, onState, posted, begun, leaves, started, startedOf, slotted, ran, figured, led, wrote}
-use Rattle.boundary.specs.Rows.{twoPlaces, rated, startRows, numberRows, postRows, slotRows, runRows, askedRows, writeRows, Pass, All-pass}
+use Rattle.on_words.specs.Rows.{twoPlaces, rated, startRows, numberRows, postRows, slotRows, runRows, askedRows, writeRows, Pass, All-pass}
 
 start-pass : Pass startRows
 unfolding total joined every upTo writtenOver lastGroup combined laterGroups numberOf groupsOf numberBytes gate then tableOf heldTo rowVerdict eachPlace tailVerdict rateSumVerdict tableVerdict roundedUp finish finishVerdict admissionVerdict accountsHold sound placeVerdict opening noState startVerdict start figuresVerdict figures inputVerdict leadOf leadVerdict leadAsked next fieldRead rowRead itemsRead placesRead numbersRead lastVerdict settled readTable tableNumbers tableBytes writeVerdict writeTable eligible later firstEligible served passed after grantOf advanced withCount withPost done ruleVerdict called slotsState slotsLog slotsVerdict runVerdict run stateWords placesFrom wordsState refusalCode onState posted begun leaves started slotted ran figured led wrote twoPlaces rated startRows

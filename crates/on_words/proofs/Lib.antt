@@ -1,0 +1,3 @@
+-- The claims, and the one proof that all rows pass.
+pub mod Claims
+pub mod Rows
