@@ -2,10 +2,10 @@
 
 use justrave::{Arbiter, Slots};
 
-use crate::model::{State, IDLE, MAX_LOG, MAX_SLOT};
+use crate::model::{State, Table, IDLE, MAX_LOG, MAX_SLOT};
 use crate::support::calls::{self, turned_by_model, turned_by_product, Call};
 use crate::support::chance::{rounds, Chance};
-use crate::support::states::{damage, first_slot, invented};
+use crate::support::states::{brimful, damage, first_slot, invented};
 use crate::support::tables;
 use crate::support::tally::Tally;
 use crate::support::words::{state_of, words_of};
@@ -48,6 +48,23 @@ fn start(bytes: &[u8], first: u64, tally: &mut Tally) -> Option<Pair> {
     Some(Pair { product: product.ok()?, model: model.ok()? })
 }
 
+/// The same for a table given as numbers.
+fn start_numbers(table: &Table, first: u64, tally: &mut Tally) {
+    let product = Arbiter::start_table(&tables::for_product(table), Slots(first)).map_err(turned_by_product);
+    let model = State::start_numbers(table, first).map_err(turned_by_model);
+    let words = |arbiter: &Arbiter| *arbiter.words();
+    assert_eq!(product.as_ref().map(words), model.as_ref().map(words_of), "start of {table:?} at {first}");
+    tally.add("start_numbers", &product);
+}
+
+/// A slot number, one in ten at its limit or beyond it.
+fn any_first(chance: &mut Chance) -> u64 {
+    match chance.within(0, 9) {
+        0 => chance.pick(&[MAX_SLOT, MAX_SLOT + 1, 1 << 63, u64::MAX]),
+        _ => first_slot(chance),
+    }
+}
+
 /// What calls come to on sound states.
 fn expect_all_but_23(tally: &Tally) {
     tally.expect("post", &[0, 11, 21]);
@@ -62,13 +79,49 @@ fn starts_from_bytes_of_every_kind() {
     let (mut chance, mut tally) = (Chance::of("starts"), Tally::default());
     for _ in 0..rounds(40_000) {
         let bytes = tables::bytes(&mut chance);
-        let first = match chance.within(0, 9) {
-            0 => chance.pick(&[MAX_SLOT, MAX_SLOT + 1, 1 << 63, u64::MAX]),
-            _ => first_slot(&mut chance),
-        };
-        start(&bytes, first, &mut tally);
+        start(&bytes, any_first(&mut chance), &mut tally);
     }
     tally.expect("start", &[0, 1, 2, 3, 4, 5, 6, 7, 8, 9, 10, 12]);
+}
+
+#[test]
+fn starts_from_numbers_of_every_kind() {
+    let (mut chance, mut tally) = (Chance::of("starts from numbers"), Tally::default());
+    for _ in 0..rounds(40_000) {
+        let table = tables::numbers(&mut chance);
+        start_numbers(&table, any_first(&mut chance), &mut tally);
+    }
+    tally.expect("start_numbers", &[0, 1, 2, 3, 4, 5, 6, 7, 12]);
+}
+
+/// Every number of one table by itself, beside what it was, at the limits of each field and beyond them; the slots of a need, which
+/// the wrapper takes with 64 bits, also at one whose low 32 bits are the old ones.
+#[test]
+fn each_number_by_itself() {
+    let (mut chance, mut tally) = (Chance::of("each number"), Tally::default());
+    for _ in 0..rounds(20) {
+        let accepted = tables::accepted(&mut chance);
+        for at in 0..tables::NUMBERS {
+            for other in other_numbers(accepted, at) {
+                let mut table = accepted;
+                *tables::number_at(&mut table, at) = other;
+                start_numbers(&table, 0, &mut tally);
+            }
+        }
+    }
+    tally.expect("start_numbers", &[0, 1, 2, 3, 4, 5, 6, 7]);
+}
+
+fn other_numbers(mut table: Table, at: usize) -> Vec<u64> {
+    let number = *tables::number_at(&mut table, at);
+    let edges = [0, 1, 16, 17, 255, 256, 65_535, 65_536, 16_777_216, 16_777_217, 1 << 30, (1 << 30) + 1, 4_294_967_295];
+    let is_within = at > 1 && at % 4 == 1;
+    let wide = is_within.then_some(number + (1 << 32));
+    [number + 1, number.saturating_sub(1), table.denominator, table.denominator + 1]
+        .into_iter()
+        .chain(edges)
+        .chain(wide)
+        .collect()
 }
 
 /// All bytes of length 0 to 2; and table T of document 01 with any one byte changed to any other, and cut off anywhere.
@@ -117,6 +170,17 @@ fn states_that_no_start_made() {
     }
     expect_all_but_23(&tally);
     tally.expect("write", &[0, 7, 14]);
+}
+
+/// The credits up to some place come to their bursts, or to one more: what 23 looks at.
+#[test]
+fn credits_at_their_limit() {
+    let (mut chance, mut tally) = (Chance::of("credits"), Tally::default());
+    for _ in 0..rounds(8_000) {
+        Pair::of(brimful(&mut chance)).make_any(&mut chance, 3, &mut tally);
+    }
+    tally.expect("post", &[0, 11, 21, 23]);
+    tally.expect("slot", &[0, 22, 23]);
 }
 
 #[test]

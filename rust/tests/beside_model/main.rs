@@ -4,4 +4,5 @@
 mod demand3;
 mod differential;
 mod model;
+mod rows;
 mod support;

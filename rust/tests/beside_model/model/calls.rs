@@ -18,7 +18,18 @@ pub struct State {
 
 impl State {
     pub fn start(table: &[u8], first: u64) -> Result<State, Fault> {
-        let table = Table::read(table)?;
+        State::open(Table::read(table)?, first)
+    }
+
+    /// From a table given as numbers.
+    pub fn start_numbers(table: &Table, first: u64) -> Result<State, Fault> {
+        table.check_numbers()?;
+        table.check_finishes()?;
+        State::open(*table, first)
+    }
+
+    /// The opening state of an accepted table.
+    fn open(table: Table, first: u64) -> Result<State, Fault> {
         pass(first <= MAX_SLOT, 12)?;
         let accounts = table.requestors.map(|requestor| Account { credit: requestor.burst, backlog: 0 });
         Ok(State { table, slot: first, accounts })

@@ -34,6 +34,17 @@ pub fn invented(chance: &mut Chance) -> State {
     state
 }
 
+/// A state with one credit raised until the credits up to its place come to the bursts up to it, or to one more; any credit above
+/// it may stand in its way, and those below it may then be too many.
+pub fn brimful(chance: &mut Chance) -> State {
+    let mut state = invented(chance);
+    let place = chance.index(state.table.count as usize);
+    let bursts = state.table.bursts_above(place + 1);
+    let above: u64 = state.accounts[..place].iter().map(|account| account.credit).sum();
+    state.accounts[place].credit = bursts - above + chance.within(0, 1);
+    state
+}
+
 fn backlog(chance: &mut Chance) -> u64 {
     let most = chance.pick(&[0, 1, 3, 40, MAX_BACKLOG]);
     MAX_BACKLOG.min(chance.within(0, most) + chance.pick(&[0, 0, 0, MAX_BACKLOG - 2]))

@@ -1,4 +1,6 @@
-//! Generated tables and their bytes: accepted ones, ones with numbers that are out of their limits, and damaged bytes.
+//! Generated tables, their bytes and their numbers: accepted ones, ones with numbers that are out of their limits, and damaged bytes.
+
+use justrave::{Slots, Transfers};
 
 use super::chance::Chance;
 use crate::model::{Requestor, Table, PLACES};
@@ -162,4 +164,69 @@ fn other_count(chance: &mut Chance, table: Table) -> Vec<u8> {
     let mut bytes = table.bytes();
     bytes[digits] = chance.pick(&[0, 1, 2, 15, 16, 17, 127, table.count as u8 + 1]);
     bytes
+}
+
+/// A table given as numbers, of every kind: accepted, with numbers out of their limits, with another N, and with numbers past its
+/// last place. N has at most 32 bits, and so has every number but the slots of a need.
+pub fn numbers(chance: &mut Chance) -> Table {
+    let mut table = match chance.within(0, 5) {
+        0..=2 => accepted(chance),
+        3 => crowded(chance),
+        _ => doubtful(chance),
+    };
+    for row in &mut table.requestors {
+        (row.rate, row.need) = (row.rate.min(4_294_967_295), row.need.min(4_294_967_295));
+    }
+    match chance.within(0, 9) {
+        0 => table.count = chance.pick(&[0, 1, 2, 15, 16, 17, 18, 255, 256 + table.count, 4_294_967_295]),
+        1 | 2 => put_past_the_last(chance, &mut table),
+        _ => {}
+    }
+    table
+}
+
+/// A number past place N - 1 that is not 0, if there is such a place.
+fn put_past_the_last(chance: &mut Chance, table: &mut Table) {
+    let count = table.count as usize;
+    if count < PLACES {
+        let place = count + chance.index(PLACES - count);
+        let number = chance.pick(&[1, 4, 255, 65_536, 4_294_967_295]);
+        *number_at(table, 2 + 4 * place + chance.index(4)) = number;
+    }
+}
+
+/// How many numbers a table has that is given as numbers.
+pub const NUMBERS: usize = 2 + 4 * PLACES;
+
+/// One of a table's numbers: D, N, then rate, burst, need and within of each place.
+pub fn number_at(table: &mut Table, at: usize) -> &mut u64 {
+    match at.checked_sub(2) {
+        None if at == 0 => &mut table.denominator,
+        None => &mut table.count,
+        Some(after) => {
+            let row = &mut table.requestors[after / 4];
+            match after % 4 {
+                0 => &mut row.rate,
+                1 => &mut row.burst,
+                2 => &mut row.need,
+                _ => &mut row.within,
+            }
+        }
+    }
+}
+
+/// The model's table as the wrapper takes it. N, and each number but the slots of a need, has at most 32 bits.
+pub fn for_product(table: &Table) -> justrave::Table {
+    let narrow = |number: u64| u32::try_from(number).expect("a number of 32 bits");
+    let requestor = |row: Requestor| justrave::Requestor {
+        rate: narrow(row.rate),
+        burst: narrow(row.burst),
+        need: Transfers(narrow(row.need)),
+        within: Slots(row.within),
+    };
+    justrave::Table {
+        denominator: narrow(table.denominator),
+        count: narrow(table.count),
+        requestors: table.requestors.map(requestor),
+    }
 }

@@ -1,0 +1,148 @@
+// The calls that read and write bytes, and how bytes are printed.
+use crate::answers::Answer;
+use crate::answers::claiming;
+use crate::answers::refused;
+use crate::answers::told;
+use crate::comparing::same_table;
+use crate::comparing::untouched;
+use crate::phrases;
+use crate::phrases::print;
+use crate::phrases::say;
+use arbiter::state::Arbiter;
+use arbiter::table::Table;
+use arbiter::table::bare_table;
+use groups::reading::Reading;
+use groups::reading::read_number;
+use groups::writing::number_len;
+use groups::writing::write_number;
+use libc::STDOUT_FILENO;
+use table_bytes::reader::ReadAnswer;
+use table_bytes::reader::read_table;
+use table_bytes::writer::WriteAnswer;
+use table_bytes::writer::write_table;
+
+fn wide(x: u8) -> u64 {
+    x as u64
+}
+
+// A log's bytes in decimal, the first of them where there are many.
+pub fn decimals(bytes: &[u8], most: usize) {
+    let mut i: usize = 0;
+    while i < bytes.len() {
+        if i < most {
+            say(phrases::LEAD, wide(bytes[i]), 0);
+        }
+        i = i + 1;
+    }
+}
+
+fn octet(x: u64) {
+    io::write_all(STDOUT_FILENO, b" ");
+    io::print_hex(STDOUT_FILENO, x, 2);
+}
+
+// A table's bytes, two digits to each.
+pub fn hexadecimals(bytes: &[u8]) {
+    let mut i: usize = 0;
+    while i < bytes.len() {
+        octet(wide(bytes[i]));
+        i = i + 1;
+    }
+}
+
+// The number and how many bytes it takes, or what is wrong.
+pub fn read_number_answer(bytes: &[u8]) -> Answer {
+    let found = read_number(bytes);
+    match found {
+        Reading::Number(x, taken) => told(phrases::READ_NUMBER, x as u64, taken as u64),
+        Reading::Ended => told(phrases::ENDED, 0, 0),
+        Reading::Malformed => told(phrases::MALFORMED, 0, 0),
+    }
+}
+
+// How many bytes the number takes, how many were written, and all of a buffer of which `room` bytes were lent.
+pub fn write_number_row(x: u32, room: usize, buffer: &mut [u8]) {
+    if room <= buffer.len() {
+        let wrote = write_number(x, &mut buffer[0..room]);
+        say(phrases::WROTE_NUMBER, number_len(x) as u64, wrote as u64);
+        hexadecimals(buffer);
+    } else {
+        say(phrases::NO_SUCH_ROW, 0, 0);
+    }
+}
+
+fn print_requestor(t: Table, p: usize) {
+    if p < Arbiter::MAX_PLACES {
+        let r = t.requestors[p];
+        let need = r.need;
+        let within = r.within;
+        print(Answer {
+            phrase: phrases::REQUESTOR,
+            tail: phrases::NOTHING,
+            refusal: 0,
+            numbers: [
+                r.rate as u64,
+                r.burst as u64,
+                need.0 as u64,
+                within.0,
+                0,
+                0,
+                0,
+            ],
+        });
+    }
+}
+
+// The rows of a table, in the order of its bytes.
+fn print_requestors(t: Table) {
+    let mut p: usize = 0;
+    while p < t.count {
+        print_requestor(t, p);
+        p = p + 1;
+    }
+}
+
+// Number by number 8, 9 and 1 to 5; then 10, 6, 7. A refused reading hands back a table of zeros.
+pub fn read_table_row(bytes: &[u8]) {
+    let done = read_table(bytes);
+    let t = done.table;
+    let a = done.answer;
+    match a {
+        ReadAnswer::Accepted => {
+            say(phrases::READ_TABLE, t.denominator as u64, t.count as u64);
+            print_requestors(t);
+        }
+        ReadAnswer::Refused(c) => {
+            print(refused(c, phrases::TABLE_ZERO, same_table(t, bare_table(0, 0))))
+        }
+    }
+}
+
+// What was written reads as the table, and the bytes beyond are as they were.
+fn written(t: Table, bytes: usize, buffer: &[u8]) -> bool {
+    if bytes <= buffer.len() {
+        let again = read_table(&buffer[0..bytes]);
+        let found = again.table;
+        return same_table(t, found) & untouched(&buffer[bytes..]);
+    }
+    false
+}
+
+// 1 to 7, then 14. A refused writing leaves every lent byte as it was.
+pub fn write_table_answer(t: Table, buffer: &mut [u8]) -> Answer {
+    let a = write_table(t, buffer);
+    match a {
+        WriteAnswer::Wrote(bytes) => claiming(
+            told(phrases::WROTE, bytes as u64, 0),
+            phrases::READS_BACK,
+            written(t, bytes, buffer),
+        ),
+        WriteAnswer::Refused(c) => refused(c, phrases::BUFFER_KEPT, untouched(buffer)),
+    }
+}
+
+// All of the buffer, after the table was written to it.
+pub fn table_bytes_row(t: Table, buffer: &mut [u8]) {
+    write_table(t, buffer);
+    hexadecimals(buffer);
+}

@@ -1,2 +1,0 @@
--- The model's sizes, by name, for its proofs.
-pub mod Sizes

@@ -1,0 +1,302 @@
+//! What a row's call comes to through the exported functions, in the words of the row. What an answer says of values that were kept
+//! or cleared is looked up in memory.
+
+use justrave::{sys, Arbiter, Cause, Refusal, SlotAnswer, Transfers};
+
+use super::row::{Call, Row};
+use crate::model::{State, IDLE};
+use crate::support::words::{state_of, words_of, Words};
+
+/// What stands in lent bytes before a call.
+const FILL: u8 = 0xAA;
+/// Bytes behind those that are lent, which no call may touch.
+const BEYOND: usize = 8;
+
+pub fn told(row: &Row) -> String {
+    match row.call {
+        Call::Admit => admit(row),
+        Call::Start => start(row),
+        Call::ReadTable => read_table(row),
+        Call::WriteTable => write_table(row),
+        Call::TableBytes => table_bytes(row),
+        Call::Post => post(row),
+        Call::Slot => slot(row),
+        Call::Run => run(row),
+        Call::Lead => lead(row),
+        Call::Figures => figures(row),
+        Call::State => state(row),
+        Call::AllCalls => {
+            refusals(row, row.number("place"), row.number("count"), row.number("for"), row.number("length"))
+        }
+        Call::Slots => decimals(&Slotted::of(row).log),
+        Call::SlotsAsRun => slots_as_run(row),
+        Call::SlotsAndCredits => slots_and_credits(row),
+        Call::Floor => floor(row),
+        Call::ReadNumber
+        | Call::WriteNumber
+        | Call::SlotOfALoan
+        | Call::Replay
+        | Call::CheckPlace
+        | Call::CheckInput => panic!("{} is not exported", row.call.name()),
+    }
+}
+
+fn arbiter(row: &Row) -> Arbiter {
+    Arbiter::from_words(words_of(&row.state()))
+}
+
+fn refused(refusal: Refusal) -> String {
+    let by = match refusal.cause {
+        Cause::Input => "input",
+        Cause::State => "state",
+    };
+    let place = refusal.place.map(|place| format!(" place {place}")).unwrap_or_default();
+    format!("refused {} {by}{place}", refusal.number)
+}
+
+/// A refusal, and what has to hold after it.
+fn refused_and(refusal: Refusal, claim: &str, holds: bool) -> String {
+    format!("{}, {}{claim}", refused(refusal), if holds { "" } else { "NOT " })
+}
+
+fn accounts(words: &Words) -> String {
+    let State { accounts: [first, second, ..], slot, .. } = state_of(words);
+    format!("credits {} {} backlogs {} {} slot {slot}", first.credit, second.credit, first.backlog, second.backlog)
+}
+
+fn decimals(bytes: &[u8]) -> String {
+    bytes.iter().map(u8::to_string).collect::<Vec<_>>().join(" ")
+}
+
+/// An outcome: the refusal's number in the low 8 bits, and above them the place + 1.
+fn answer_of(outcome: u64) -> Result<(), Refusal> {
+    if outcome == 0 {
+        return Ok(());
+    }
+    let number = (outcome & 255) as u8;
+    let place = (outcome >> 8).checked_sub(1).map(|place| place as usize);
+    let cause = if (21..=29).contains(&number) { Cause::State } else { Cause::Input };
+    Err(Refusal { number, place, cause })
+}
+
+/// Words that no start has written, so that a start that writes none of them shows.
+const DIRTY: Words = [u64::MAX; Arbiter::STATE_WORDS];
+
+fn start_numbers(row: &Row, first: u64) -> (Result<(), Refusal>, Words) {
+    let numbers = row.numbers().expect("the numbers have 32 bits");
+    let mut words = DIRTY;
+    // SAFETY: numbers and words are of this function, and each has its length behind it.
+    let outcome =
+        unsafe { sys::justrave_start_numbers(numbers.as_ptr(), numbers.len(), first, words.as_mut_ptr(), words.len()) };
+    (answer_of(outcome), words)
+}
+
+fn start_bytes(bytes: &[u8]) -> (Result<(), Refusal>, Words) {
+    let mut words = DIRTY;
+    // SAFETY: the words are a local, and both pointers have their lengths behind them.
+    let outcome = unsafe { sys::justrave_start(bytes.as_ptr(), bytes.len(), 0, words.as_mut_ptr(), words.len()) };
+    (answer_of(outcome), words)
+}
+
+fn is_zero(words: &Words) -> bool {
+    words.iter().all(|&word| word == 0)
+}
+
+/// The checks of a table are those of a start at slot 0.
+fn admit(row: &Row) -> String {
+    match start_numbers(row, 0).0 {
+        Ok(()) => "faultless".to_string(),
+        Err(refusal) => refused(refusal),
+    }
+}
+
+fn start(row: &Row) -> String {
+    match start_numbers(row, row.number("first")) {
+        (Ok(()), words) => format!("started {}", accounts(&words)),
+        (Err(refusal), words) => refused_and(refusal, "state zero", is_zero(&words)),
+    }
+}
+
+/// A reading is the part of a start that comes first; a refused one leaves no table in the state.
+fn read_table(row: &Row) -> String {
+    match start_bytes(&row.bytes("bytes")) {
+        (Ok(()), words) => format!("accepted {}", table_numbers(&words)),
+        (Err(refusal), words) => refused_and(refusal, "table zero", is_zero(&words)),
+    }
+}
+
+/// D, N and the rows.
+fn table_numbers(words: &Words) -> String {
+    let table = state_of(words).table;
+    let rows = table.used().iter().flat_map(|row| [row.rate, row.burst, row.need, row.within]);
+    let numbers = [table.denominator, table.count].into_iter().chain(rows);
+    numbers.map(|number| number.to_string()).collect::<Vec<_>>().join(" ")
+}
+
+/// Lent bytes with some behind them.
+fn memory(length: u64) -> (Vec<u8>, usize) {
+    let length = length as usize;
+    (vec![FILL; length + BEYOND], length)
+}
+
+fn untouched(bytes: &[u8]) -> bool {
+    bytes.iter().all(|&byte| byte == FILL)
+}
+
+fn write_table(row: &Row) -> String {
+    let (mut buffer, room) = memory(row.number("room"));
+    match arbiter(row).write_table(&mut buffer[..room]) {
+        Ok(wrote) => {
+            let (written, beyond) = buffer.split_at(wrote);
+            let (read, words) = start_bytes(written);
+            let same = read.is_ok() && state_of(&words).table == row.state().table;
+            let not = |holds: bool| if holds { "" } else { "NOT " };
+            format!("wrote {wrote}, {}reads back, {}beyond kept", not(same), not(untouched(beyond)))
+        }
+        Err(refusal) => refused_and(refusal, "buffer kept", untouched(&buffer)),
+    }
+}
+
+/// All of the buffer, after the table was written to it.
+fn table_bytes(row: &Row) -> String {
+    let (mut buffer, room) = memory(row.number("room"));
+    arbiter(row).write_table(&mut buffer[..room]).expect("the table is written");
+    buffer[..room].iter().map(|byte| format!("{byte:02x}")).collect::<Vec<_>>().join(" ")
+}
+
+fn post(row: &Row) -> String {
+    let mut line = arbiter(row);
+    let before = *line.words();
+    match line.post(row.number("place") as usize, Transfers(row.number("count") as u32)) {
+        Ok(()) => format!("accepted {}", accounts(line.words())),
+        Err(refusal) => refused_and(refusal, "state kept", *line.words() == before),
+    }
+}
+
+fn slot(row: &Row) -> String {
+    let mut line = arbiter(row);
+    let before = *line.words();
+    match line.slot() {
+        Ok(SlotAnswer::Granted(stamp, place)) => format!("granted {place} stamp {stamp} {}", accounts(line.words())),
+        Ok(SlotAnswer::Idle(stamp)) => format!("idle stamp {stamp} {}", accounts(line.words())),
+        Err(refusal) => refused_and(refusal, "state kept", *line.words() == before),
+    }
+}
+
+/// Of the log the first nine bytes are told.
+fn run(row: &Row) -> String {
+    let mut line = arbiter(row);
+    let before = *line.words();
+    let (mut log, length) = memory(row.number("length"));
+    match line.run(&mut log[..length]) {
+        Ok(()) => {
+            assert!(untouched(&log[length..]), "a run wrote behind its log");
+            format!("ran {} log {}", accounts(line.words()), decimals(&log[..length.min(9)])).trim_end().to_string()
+        }
+        Err(refusal) => {
+            let kept = refused_and(refusal, "state kept", *line.words() == before);
+            format!("{kept}, {}log kept", if untouched(&log) { "" } else { "NOT " })
+        }
+    }
+}
+
+fn lead(row: &Row) -> String {
+    let line = arbiter(row);
+    match line.lead(row.number("place") as usize, &row.log()) {
+        Ok(lead) => lead.to_string(),
+        Err(refusal) => refused(refusal),
+    }
+}
+
+fn figures(row: &Row) -> String {
+    match arbiter(row).figures(row.number("place") as usize, Transfers(row.number("for") as u32)) {
+        Ok(figures) => format!("wait {} finish {}", figures.wait, figures.finish),
+        Err(refusal) => refused(refusal),
+    }
+}
+
+/// The refusal's number, or 0.
+fn number<T>(answer: Result<T, Refusal>) -> u8 {
+    answer.map_or_else(|refusal| refusal.number, |_| 0)
+}
+
+/// What every call says of one state. The check of a place is the part of figures that comes before the one for j.
+fn refusals(row: &Row, place: u64, count: u64, j: u64, length: u64) -> String {
+    let (line, place, mut log) = (arbiter(row), place as usize, vec![FILL; length as usize]);
+    let led = number(line.lead(place, &log));
+    let posted = number(line.clone().post(place, Transfers(count as u32)));
+    let slotted = number(line.clone().slot());
+    let ran = number(line.clone().run(&mut log));
+    let figured = number(line.figures(place, Transfers(j as u32)));
+    let checked = number(line.figures(place, Transfers(1)));
+    format!("post {posted} slot {slotted} run {ran} lead {led} figures {figured} check_place {checked}")
+}
+
+/// A state is sound if a call that refuses nothing else does not refuse it 23: a post of nothing to place 0.
+fn state(row: &Row) -> String {
+    let told = refusals(row, 0, 0, 1, 1);
+    let sound = number(arbiter(row).post(0, Transfers(0))) != 23;
+    if sound {
+        return format!("sound, {told}");
+    }
+    let before = *arbiter(row).words();
+    let (mut posted, mut slotted, mut ran, mut log) = (arbiter(row), arbiter(row), arbiter(row), [FILL; 3]);
+    let refusals = [number(posted.post(0, Transfers(1))), number(slotted.slot()), number(ran.run(&mut log))];
+    assert_eq!(refusals, [23; 3]);
+    let kept = *posted.words() == before && *slotted.words() == before;
+    let kept_by_run = *ran.words() == before && untouched(&log);
+    let not = |holds: bool| if holds { "" } else { "NOT " };
+    format!("unsound, {told}, {}state kept, {}kept by run", not(kept), not(kept_by_run))
+}
+
+/// Slots, one call after the other.
+struct Slotted {
+    log: Vec<u8>,
+    line: Arbiter,
+}
+
+impl Slotted {
+    /// When `after` slots are done, the row's count is posted to its place.
+    fn of(row: &Row) -> Slotted {
+        let mut slotted = Slotted { log: Vec::new(), line: arbiter(row) };
+        for done in 0..row.number("length") {
+            if done == row.number("after") {
+                let count = Transfers(row.number("count") as u32);
+                slotted.line.post(row.number("place") as usize, count).expect("the post is accepted");
+            }
+            slotted.slot();
+        }
+        slotted
+    }
+
+    fn slot(&mut self) {
+        self.log.push(match self.line.slot().expect("the slot is accepted") {
+            SlotAnswer::Granted(_, place) => place as u8,
+            SlotAnswer::Idle(_) => IDLE,
+        });
+    }
+}
+
+fn slots_as_run(row: &Row) -> String {
+    let mut line = arbiter(row);
+    let mut log = vec![FILL; row.number("length") as usize];
+    line.run(&mut log).expect("the run is accepted");
+    let same = line == Slotted::of(row).line;
+    format!("{}, {}the state of the nine slots", decimals(&log), if same { "" } else { "NOT " })
+}
+
+fn slots_and_credits(row: &Row) -> String {
+    let slotted = Slotted::of(row);
+    let [first, second, ..] = state_of(slotted.line.words()).accounts;
+    format!("{} credits {} {}", decimals(&slotted.log), first.credit, second.credit)
+}
+
+/// Both sides of the floor of place 1, over all of the slots.
+fn floor(row: &Row) -> String {
+    let slotted = Slotted::of(row);
+    let (table, length) = (row.state().table, slotted.log.len() as u64);
+    let grants = slotted.log.iter().filter(|&&granted| granted == 1).count() as u64;
+    let (left, above) = (table.rate_left(1), table.bursts_above(1));
+    let share = left * table.denominator * grants;
+    format!("{share} against {}", table.requestors[1].rate * (left * length - above))
+}
