@@ -10,8 +10,8 @@ use Rattle.lists.specs.Sums.{joined}
 use Rattle.arbiter.specs.declared.state.Arbiter.{Arbiter}
 use Rattle.arbiter.specs.Table.{rowNumbers}
 use Rattle.boundary.specs.Words.{accountWords, headWords, stateWords, rowStart, accountStart, wordCount, rowFrom, accountFrom, wordsRows, wordsAccounts, wordsState}
-use Rattle.boundary.specs.Numbers.{allNumbers, numbersTable, numberCount, Numbers-read-back, Table-written-back}
-use Rattle.boundary.specs.RoundTrip.{Words-read-back, Words-shaped, State-written-back}
+use Rattle.boundary.specs.Numbers.{allNumbers, numbersTable, numberCount}
+use Rattle.boundary.specs.RoundTrip.{Words-read-back, Words-shaped, State-written-back, Numbers-read-back, Table-written-back}
 use Rattle.boundary.proofs.Items.{length-places, written-read, read-written}
 use Rattle.boundary.proofs.Words.{rows, accounts, length-rows, length-state}
 

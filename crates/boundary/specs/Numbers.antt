@@ -1,7 +1,6 @@
 -- A table given as numbers: D, N, then rate, burst, need and within of each place, for as many places as the largest N. Those past place
 -- N−1 are 0, or check 2 refuses the table.
-use mathlib.Core.Path.{_≡_}
-use mathlib.Core.Bool.{Bool, true}
+use mathlib.Core.Bool.{Bool}
 use mathlib.Core.List.{List, _∷_}
 use Prim.Native.Nat.{ℕ, _+_, _*_}
 use lib.Dec.{eqb}
@@ -31,11 +30,3 @@ numberCount limit = 2 + 4 * limit
 
 abbrev pub rightNumbers : ℕ → List ℕ → Bool
 rightNumbers limit numbers = eqb (length numbers) (numberCount limit)
-
--- a table's numbers are that table, and any numbers of the right length are a table's
-abbrev pub Numbers-read-back : Type 0
-Numbers-read-back =
-    (limit : ℕ) (t : Table) → length (t .requestors) ≡ limit → (rightNumbers limit (allNumbers t) ≡ true) × (numbersTable limit (allNumbers t) ≡ t)
-
-abbrev pub Table-written-back : Type 0
-Table-written-back = (limit : ℕ) (numbers : List ℕ) → rightNumbers limit numbers ≡ true → allNumbers (numbersTable limit numbers) ≡ numbers
