@@ -1,4 +1,4 @@
--- What a call answers, in document 01's values: "A slot ends granted, idle or refused."
+-- What a call answers, in document 01's values. A slot has three ends: a place is granted, nobody is, or the call is refused.
 use Prim.Native.Nat.{ℕ}
 use Rattle.arbiter.specs.declared.refusals.Refusal.{Refusal}
 

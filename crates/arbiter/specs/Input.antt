@@ -1,4 +1,4 @@
--- Document 01: "13: log or program input longer than 65,536 bytes."
+-- Document 01's check 13: neither a log nor the program's input may have more than 65,536 bytes.
 use Prim.Native.Nat.{ℕ}
 use lib.Dec.{leb}
 use Rattle.arbiter.specs.Limits.{maxInput}

@@ -63,7 +63,7 @@ abbrev pub refusalOf : Cause → Refusal
 refusalOf (cause.Input i) = record { number = inputNumber i; place = inputPlace i; origin = origin.Input }
 refusalOf (cause.State s) = record { number = stateNumber s; place = named.Nowhere; origin = origin.State }
 
--- "Numbers 21 to 29, later ones included, are caused by the state, all others by the input."
+-- the state is the cause of 21 to 29, among them numbers that are not given yet, and the input of every other
 abbrev pub originOf : ℕ → Origin
 originOf n = pick (inRange 21 29 n) origin.State origin.Input
 

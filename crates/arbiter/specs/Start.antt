@@ -1,5 +1,5 @@
--- Document 01: "A start takes a table and a first slot number; each credit c is b and each backlog q is 0." Its checks are
--- those of a table given as numbers, then 12; a refused start hands back a state whose every field is 0.
+-- A start makes a state of a table and the number of its first slot: every place has its burst for credit, and nothing waits. Its checks
+-- are those of a table given as numbers, then 12; a refused start hands back a state whose every field is 0.
 use mathlib.Core.List.{map}
 use Prim.Native.Nat.{ℕ}
 use lib.Dec.{leb}

@@ -1,4 +1,4 @@
--- The arbiter's state, and document 01's test 23: "the state breaks a rule".
+-- The arbiter's state, and document 01's test 23, whether it breaks a rule.
 use mathlib.Core.Path.{_≡_}
 use mathlib.Core.Bool.{Bool, true, false, _&&_}
 use mathlib.Core.List.{List}

@@ -29,7 +29,7 @@ pub data Call : Type 0 where
 unfoldable pub grantOf : Arbiter → Grant
 grantOf s = firstEligible (s .table .denominator) (requestorsOf (s .table)) (s .accounts)
 
--- the state after a slot that granted g: every account, and 5. "the slot number rises by 1"
+-- the state after a slot that granted g: every account, and of step 5 that the slot number goes up by 1
 unfoldable pub advanced : Arbiter → Grant → Arbiter
 advanced s g = record {
   table = s .table;
@@ -37,7 +37,7 @@ advanced s g = record {
   accounts = after (s .table .denominator) g (requestorsOf (s .table)) (s .accounts);
 }
 
--- "A post adds a count (0 allowed) to one place's q."
+-- a post raises the backlog of one place by its count, which may be 0
 unfoldable pub withCount : ℕ → Account → Account
 withCount count a = record { credit = a .credit; backlog = record { 0 = backlog a + count } }
 
@@ -48,7 +48,7 @@ withPost s p count = record {
   accounts = set (s .accounts) p (withCount count (accountAt p (s .accounts)));
 }
 
--- 5. "The stamp is the present slot number."
+-- 5. the slot is stamped with the number that it had
 abbrev pub slotAnswer : ℕ → Grant → Answer
 slotAnswer stamp Nobody = idle stamp
 slotAnswer stamp (Place p) = granted stamp p

@@ -1,5 +1,5 @@
--- Document 01: "A run does as many slots as the lent log has bytes, writing the place granted, or 255 for idle; each further slot is
--- given only the unwritten rest of the log. An empty log means no slot." Run: 23, 13, 22.
+-- A run over a lent log: a slot for each of its bytes, and into each byte the place that was granted, or 255 where nobody was. It is told
+-- slot by slot, each with the part of the log that is still to be written; without a byte there is no slot. Checks: 23, 13, 22.
 use mathlib.Core.List.{List, [], _∷_}
 use Prim.Native.Nat.{ℕ, zero, suc, _+_}
 use lib.Dec.{leb}
@@ -31,7 +31,7 @@ unfoldable pub slotsLog : ℕ → Arbiter → List ℕ
 slotsLog zero s = []
 slotsLog (suc slots) s = grantByte (grantOf s) ∷ slotsLog slots (advanced s (grantOf s))
 
--- check 22 of a run: "slot number plus log length would pass it"
+-- check 22 of a run: as many slots as the log has bytes must still have numbers
 unfoldable pub slotsVerdict : (first slots : ℕ) → Verdict
 slotsVerdict first slots = gate (refusal 22) (leb (first + slots) maxSlot) faultless
 

@@ -11,7 +11,7 @@ use Rattle.arbiter.specs.State.{backlog}
 use Rattle.calls.specs.declared.slot.Grant.{Grant}
 use Rattle.calls.specs.declared.slot.Grant.the-variants.{Nobody, Place}
 
--- 1. "A place is eligible when q is above 0 and c + n is at least D."
+-- 1. eligible is who has something waiting, and with this slot's share the credit for one transfer
 unfoldable pub eligible : ℕ → Requestor → Account → Bool
 eligible d r a = pick (ltb 0 (backlog a)) (leb d (a .credit + r .rate)) false
 
@@ -20,18 +20,18 @@ unfoldable pub later : Grant → Grant
 later Nobody = Nobody
 later (Place p) = Place (suc p)
 
--- "The places are tried from 0 upward, and the search stops at the first eligible one. It is granted."
+-- the grant goes to the first eligible place, from 0 on
 unfoldable pub firstEligible : ℕ → List Requestor → List Account → Grant
 firstEligible d [] accounts = Nobody
 firstEligible d (r ∷ rs) [] = Nobody
 firstEligible d (r ∷ rs) (a ∷ accounts) = pick (eligible d r a) (Place 0) (later (firstEligible d rs accounts))
 
--- 2. "The granted place: q falls by 1, c becomes c + n − D."
+-- 2. the granted place has one transfer fewer waiting, and pays D out of its credit and its share
 unfoldable pub served : ℕ → Requestor → Account → Account
 served d r a = record { credit = a .credit + r .rate - d; backlog = record { 0 = backlog a - 1 } }
 
--- 3. "Any other place with q above 0: c becomes c + n."
--- 4. "Any other place with q equal to 0: c becomes the lesser of c + n and b."
+-- 3. a place that waits and is not granted keeps its whole share, above its burst too
+-- 4. one with nothing waiting saves no more than its burst
 unfoldable pub passed : Requestor → Account → Account
 passed r a = record {
   credit = pick (ltb 0 (backlog a)) (a .credit + r .rate) (min (a .credit + r .rate) (r .burst));

@@ -1,4 +1,4 @@
--- "The P cases, gathered as rows that one proof covers": every row gets the reply that is written for it.
+-- Every row gets the reply that is written for it: one statement about all rows, document 01's P cases first.
 use mathlib.Core.Path.{_≡_}
 use mathlib.Core.List.{List, _++_, map}
 use Rattle.cases.specs.Rows.{Row, reply}

@@ -1,6 +1,6 @@
--- Document 01, "Table bytes": "Numbers stand in groups of seven bits, lowest group first. A byte's top bit (hexadecimal 80) says
--- that another group follows. A number is at most 4,294,967,295, takes at most five bytes and is in its shortest form: its last
--- byte is 00 only if it is the only byte." A byte is a number below 256, and its top bit is worth 128.
+-- Document 01, "Table bytes": a number of at most 32 bits as one to five bytes. Each byte holds seven bits of it, the lowest seven first,
+-- and its eighth bit, worth 128, is set in all but the last. One form only is taken, the shortest: a last byte that adds nothing, 00, is
+-- there only for the number 0. A byte is a number below 256.
 --
 -- The reading taken: a fifth byte with its top bit set is no number whether or not bytes come after it, so 80 80 80 80 80 is
 -- malformed and has not ended too soon. This crate knows no refusals: that Ended is 8 and Malformed 9 is said where a table's bytes

@@ -1,4 +1,4 @@
--- "From a start on, transfers accepted in posts to a place equal those granted to it plus its backlog."
+-- Nothing is lost: at any time after a start, what was accepted for a place is what was granted to it and what still waits there.
 use mathlib.Core.Path.{_≡_}
 use mathlib.Core.List.{List, [], _∷_}
 use Prim.Native.Nat.{ℕ, _+_}

@@ -1,5 +1,5 @@
--- Document 01, "Wait, finish and lead": what is counted along a list of calls. "Granted is what the accepted slots answer", so
--- slots and grants are counted in the answers.
+-- Document 01, "Wait, finish and lead": what is counted along a list of calls. Slots and grants are counted in what the calls
+-- answered.
 use mathlib.Core.List.{List, [], _∷_}
 use mathlib.Core.Path.{_≡_}
 use Prim.Native.Nat.{ℕ, zero, suc, _<_}
@@ -41,8 +41,7 @@ firstSlots [] m = []
 firstSlots (a ∷ heard) zero = []
 firstSlots (a ∷ heard) (suc m) = a ∷ firstSlots heard (inSlot (suc m) (λ g. m) a)
 
--- "A place has a transfer waiting in a slot when its q is above 0 directly before that slot": asked of an accepted slot, not of
--- another call
+-- whether a place waits is asked directly before an accepted slot, and of no other call
 abbrev pub WaitsAt : ℕ → Arbiter → Answer → Type 0
 WaitsAt p s = inSlot (Unit {0}) (λ g. 0 < backlog (accountAt p (s .accounts)))
 

@@ -1,5 +1,5 @@
--- "What never passes is the sum: at every moment the credits of places 0 to k sum to at most their bursts." So the state
--- always passes test 23. And "R is at least n".
+-- One credit may pass its burst, but the credits of the first k places together never pass their bursts together. So the state always
+-- passes test 23. And the rate that the places above leave, R, is enough for the place's own.
 use mathlib.Core.Path.{_≡_}
 use mathlib.Core.Bool.{true}
 use mathlib.Core.List.{List}

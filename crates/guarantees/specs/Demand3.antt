@@ -1,7 +1,6 @@
--- DEMAND 3. "Demand 3 is a single claim about a list of calls." The list starts from the state of an accepted start and holds
--- posts and slots in any order, with any places and counts, refused ones too. "A stretch is 0 or more accepted slots that follow
--- one another in the list, whatever posts and refused calls stand between them": `before` leads to it and `inside` holds it. A
--- place "enters a stretch with the c it has at the beginning": where `inside` begins, since no post changes a credit.
+-- DEMAND 3, one claim about any list of posts and slots from an accepted start, whatever their order, places and counts, those that are
+-- refused among them. A stretch of it is given by two lists: `before` leads to it, and `inside` holds its slots, with the posts and refused
+-- calls that stand between them. A place enters it with the credit that it has where `inside` begins, since no post changes a credit.
 use mathlib.Core.Path.{_≡_}
 use mathlib.Core.List.{List}
 use Prim.Native.Nat.{ℕ, _+_, _*_, _≤_, _<_}
@@ -18,11 +17,11 @@ use Rattle.arbiter.specs.Start.{opening}
 use Rattle.calls.specs.Calls.{Call, ruled, called}
 use Rattle.guarantees.specs.Counts.{slotsIn, grantsTo, grantsToFirst, Waits, Accepted, startState, stateAfter, heardFrom}
 
--- "D times the grants to the first k is at most their summed bursts plus L times their summed rates"
+-- what the first k places get in L slots, D for each grant, is covered by their bursts and L times their rates
 abbrev pub Ceiling : ℕ → List Requestor → ℕ → ℕ → ℕ → Type 0
 Ceiling d rs k L g = d * g ≤ total burst (take k rs) + L * total rate (take k rs)
 
--- "R × D × g is at least n × (R × L − B)"
+-- what place p gets in L slots is its share of them less the wait B / R, both sides times R × D and without a difference
 abbrev pub Floor : ℕ → List Requestor → ℕ → ℕ → ℕ → Type 0
 Floor d rs p L g = n * R * L ≤ R * d * g + n * B
   where

@@ -1,5 +1,5 @@
--- "A post to a place changes no grant, credit or backlog of the places above it: two runs from one start, with the same posts
--- to places 0 to k before each slot, show those places the same after each slot."
+-- What is posted to a place makes no difference to the places above it. Two lists of calls from one start that agree, between slot and
+-- slot, in what they post to the first places show these places the same after every slot.
 use mathlib.Core.Path.{_≡_}
 use mathlib.Core.Bool.{Bool, true, false}
 use mathlib.Core.List.{List, [], _∷_}
@@ -17,8 +17,7 @@ use Rattle.arbiter.specs.State.{accountAt}
 use Rattle.calls.specs.Calls.{Call, post, slot, called}
 use Rattle.guarantees.specs.Counts.{Accepted, startState}
 
--- "A post to a place changes no grant, credit or backlog of the places above it." Here: a post leaves every account but that of its own
--- place, above it or below. What it does to later grants is said further down, of whole lists of calls.
+-- a post by itself: it leaves every account but that of its own place, above it or below. What it does to later grants is said further down, of whole lists of calls.
 abbrev pub Post-apart : Type 0
 Post-apart = (limit : ℕ) (s : Arbiter) (p count i : ℕ) → (i ≡ p → ⊥)
     → accountAt i (called limit s (post p count) .state .accounts) ≡ accountAt i (s .accounts)

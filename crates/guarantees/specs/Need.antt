@@ -1,5 +1,5 @@
--- What a need reads: "j transfers waiting together, entered with credit at least D, are all granted within L slots", whatever
--- is posted or refused meanwhile, and whatever the credit; for every j, and with the finish figure for L.
+-- What a need promises: once j transfers wait at a place, so many are granted to it within L slots, whatever is posted or refused meanwhile
+-- and whatever its credit. It holds for every j, with the finish figure for L.
 use mathlib.Core.Path.{_≡_}
 use mathlib.Core.Bool.{true}
 use mathlib.Core.List.{List}

@@ -1,6 +1,5 @@
--- "A run does as many slots as the lent log has bytes, writing the place granted, or 255 for idle": an accepted run is that many calls
--- of slot, each of them accepted, so that what is promised of lists of calls is promised of runs; and a run of a + b slots is a run of
--- a and then a run of b.
+-- An accepted run over a log is as many calls of slot as the log has bytes, each of them accepted, so that what is promised of lists of
+-- calls is promised of runs; and a run of a + b slots is a run of a and then a run of b.
 use mathlib.Core.Path.{_≡_}
 use mathlib.Core.List.{List, _++_, map}
 use Prim.Native.Nat.{ℕ}

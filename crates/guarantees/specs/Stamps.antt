@@ -1,5 +1,4 @@
--- "The stamp is the present slot number, and the slot number rises by 1": the accepted slots of a list are stamped first,
--- first + 1, first + 2, .. No two share a stamp, and refused calls use none up.
+-- The accepted slots of a list are stamped first, first + 1, first + 2, .. No two share a stamp, and refused calls use none up.
 use mathlib.Core.Path.{_≡_}
 use mathlib.Core.List.{List, [], _∷_}
 use Prim.Native.Nat.{ℕ, zero, suc, _+_, _<_}

@@ -1,4 +1,5 @@
--- Document 01: "The lead is a signed number: D times the log bytes equal to p, less n times the log's length." Lead: 23, 11, 13.
+-- How far a place is ahead of its rate over a log, or below 0 how far behind: D for each byte that is the place, less its rate for each byte
+-- of the log. Checks: 23, 11, 13.
 use mathlib.Core.List.{List}
 use Prim.Native.Nat.{ℕ, _*_}
 use lib.Dec.{eqb}

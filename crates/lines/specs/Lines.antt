@@ -1,6 +1,5 @@
--- Document 01's lines: "It prints the header `slot place credits`; per slot the stamp, the granted place or -, and the credits after the
--- slot from place 0 on; at a clean end, `end` and the number of slots." And: "A refusal prints a line of `refused`, a space and the number
--- alone, and stops".
+-- The lines of document 01's program: the header; for each slot its stamp, whom it was granted to, or -, and every place's credit after it;
+-- `end` with how many slots there were; `refused` with the number and nothing else.
 use mathlib.Core.List.{List, [], _∷_, map}
 use Prim.Native.Nat.{ℕ}
 use lib.ListN.{take}

@@ -1,5 +1,5 @@
--- Document 01, of the program: "Each line ends with a line feed, its items are parted by one space and its numbers are decimal." A text
--- is a list of bytes in ASCII: a line feed is 10, a space 32, and the digits begin at 48.
+-- What a line of document 01's program is made of: items with a space between two of them, numbers in decimal, and a line feed behind the
+-- last. A text is a list of bytes in ASCII: a line feed is 10, a space 32, and the digits begin at 48.
 use mathlib.Core.List.{List, [], _∷_, _++_}
 use Prim.Native.Nat.{ℕ, zero, suc, _+_, _/_, _%_}
 use lib.Dec.{ltb}

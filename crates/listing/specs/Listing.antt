@@ -47,12 +47,12 @@ slotTold before (idle stamp) after rest = more (slotLine stamp Nobody after) aft
 slotTold before (refused why) after rest = last (refusedLine why) before
 slotTold before accepted after rest = last [] before
 
--- "All N counts of a slot are read before the first is posted."
+-- a slot's counts are all read, and only then posted
 unfoldable pub slotStep : ℕ → Arbiter → Read (List ℕ) → Step
 slotStep limit s (read counts rest) = let done = played limit s counts in slotTold s (done .answer) (done .state) rest
 slotStep limit s (stop why) = last (refusedLine why) s
 
--- One slot from the rest of the input. "Input that ends between two slots is a clean end", also before the first. It starts at slot 0, so
+-- One slot from the rest of the input, or a clean end where nothing is left of it, before the first slot too. It starts at slot 0, so
 -- the slot number is the number of slots. A state that breaks a rule, which no accepted start makes and no step goes on with, is refused
 -- 23 before all else; the paper leaves that free.
 unfoldable pub step : ℕ → Arbiter → (rest : List ℕ) → Step
@@ -63,7 +63,7 @@ step limit s rest =
 
 -- ---- the beginning
 
--- "The header is always the first line, also before a refusal."
+-- the header goes ahead of everything, a refusal too
 unfoldable pub headed : ℕ → Read Arbiter → Step
 headed limit (read s rest) = more header s rest
 headed limit (stop why) = last (header ++ refusedLine why) (noState limit)

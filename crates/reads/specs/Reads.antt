@@ -1,5 +1,5 @@
--- Document 01, the program slotlist: it "reads standard input: the table's length in bytes as one number in groups, the table bytes, then for
--- each slot N post counts in groups. It starts at slot 0." What is read comes to a value and the rest of the input, or to a refusal.
+-- What document 01's program slotlist reads of its input: how many bytes its table has, the table, which starts at slot 0, and then for each
+-- slot a count for every place, all numbers in groups. What is read comes to a value and the rest of the input, or to a refusal.
 -- `limit` is the largest N throughout.
 use mathlib.Core.List.{List}
 use Prim.Native.Nat.{ℕ}

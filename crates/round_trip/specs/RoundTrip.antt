@@ -1,4 +1,4 @@
--- Of demand 2: "Bytes written from an accepted table read back as it; accepted bytes written again are the same bytes." It holds
+-- Of demand 2: an accepted table, written and read, is that table, and accepted bytes, read and written, are those bytes. It holds
 -- for any largest N that a number can be. A table's array has as many rows as the largest N, and a byte is below 256.
 use mathlib.Core.Path.{_≡_}
 use mathlib.Core.List.{List}

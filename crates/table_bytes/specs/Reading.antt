@@ -1,6 +1,6 @@
--- Document 01, "Table bytes": "The order is D, N, then n, b, j, L for each place. After each number the reader hands on the rest of
--- the bytes." And from its order of checks: "Bytes: each number is read (8, 9) and checked (1 to 5) before the next is read, then 10,
--- 6, 7." A refused reading hands back a table whose every field is 0.
+-- Document 01, "Table bytes", as they are read: D, N, and for each place its rate, its burst and the two numbers of its need. Each number is
+-- read from what the one before it left, 8 or 9 if there is none, and held to its limits, 1 to 5, before the next; then come 10, 6 and
+-- 7. A refused reading hands back a table whose every field is 0.
 use mathlib.Core.List.{List, [], _∷_}
 use Prim.Native.Nat.{ℕ, zero, suc}
 use lib.Dec.{eqb}

@@ -1,4 +1,4 @@
--- Document 01, "Table bytes": "A writer fills a lent buffer from its start and leaves the bytes beyond untouched." Its checks are those
+-- Document 01, "Table bytes", as they are written to the start of a lent buffer; what lies behind them stays. The checks are those
 -- of a table given as numbers, then 14; a refused writing writes no byte.
 use mathlib.Core.List.{List, [], _∷_}
 use Prim.Native.Nat.{ℕ}
