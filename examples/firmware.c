@@ -108,7 +108,7 @@ static void tell_bytes(void)
     }
 }
 
-/* What bad input gets: a number, and nothing changes. */
+/* What bad input gets: a number. The state stays what it was; only the words of a start that is refused are set to 0. */
 static void show_refusals(void)
 {
     uint64_t other[JUSTRAVE_STATE_WORDS];

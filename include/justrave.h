@@ -16,13 +16,14 @@
  * - while a call runs nobody else writes its memory, and nobody else reads what is lent to it for writing.
  *
  * Nothing else is asked. Any number, any bytes and any words may be handed in: every call has an answer. But C cuts a number down to
- * the type of its parameter before the call: a count of transfers has 32 bits, and a larger one arrives as another count.
+ * the type of its parameter before the call: a count of transfers and the numbers of a table have 32 bits, and a larger one arrives as
+ * another number.
  *
  * The stack. The library follows the System V calling convention of x86-64. It finds the stack aligned to 16 bytes, as every caller
  * leaves it, and keeps it so; and it uses the red zone, the 128 bytes below the stack pointer. An interrupt handler that runs on the same
- * stack must skip these 128 bytes before it writes, as the handlers of a process's signals do. How many bytes of stack a call takes, its
- * return address and the red zone included, measured with 16 places by tests/stack: a start from bytes 8,400, one from numbers 6,080,
- * a write 5,440, a run 5,072, a slot 4,896, a lead 4,496, figures 4,480, a post 3,792. JUSTRAVE_STACK is enough for each.
+ * stack must skip these 128 bytes before it writes, as the handlers of a process's signals do. How many bytes of stack an accepted
+ * call takes, its return address and the red zone included, measured with 16 places by tests/stack: a start from bytes 8,400, one from numbers 6,080,
+ * a write 5,440, a run 5,072, a slot 4,896, a lead 4,496, figures 4,480, a post 3,792. JUSTRAVE_STACK is more than each.
  */
 #ifndef JUSTRAVE_H
 #define JUSTRAVE_H
@@ -46,10 +47,13 @@ extern "C" {
  */
 #define JUSTRAVE_STATE_WORDS 99
 
-/* How many numbers a table has that is given as numbers: D, N and four to each of 16 places. */
-#define JUSTRAVE_TABLE_NUMBERS 66
+/* The largest N: so many places a table has room for. */
+#define JUSTRAVE_MAX_PLACES 16
 
-/* Enough bytes of stack for any one call. */
+/* How many numbers a table has that is given as numbers: D, N and four to each place. */
+#define JUSTRAVE_TABLE_NUMBERS (2 + 4 * JUSTRAVE_MAX_PLACES)
+
+/* More bytes of stack than any call was measured to take. */
 #define JUSTRAVE_STACK 10240
 
 /* How many words, or for the lead how many signed numbers, each answer has. */
@@ -77,7 +81,7 @@ extern "C" {
  * nothing but JUSTRAVE_ACCEPTED.
  *
  * A refused call changes nothing: the state, the log, the buffer and the answer are what they were. Only a start that is refused
- * for its table or its slot number writes: it sets every word of the state to 0, and every other call on such words is refused 23.
+ * for its table or its slot number writes: it sets every word of the state to 0, and every call on such words but a start is refused 23.
  * Start into memory of its own where an old state is still wanted.
  */
 enum {
@@ -85,14 +89,14 @@ enum {
 
     /* caused by the input */
     JUSTRAVE_DENOMINATOR = 1,  /* D is not 1 to 65,535 */
-    JUSTRAVE_PLACES = 2,       /* N is not 1 to 16; in a table given as numbers, or a number past place N-1 is not 0 */
+    JUSTRAVE_PLACES = 2,       /* N is not 1 to 16, or a table given as numbers has one past place N-1 that is not 0 */
     JUSTRAVE_RATE = 3,         /* a rate is not 1 to D; names the place */
     JUSTRAVE_BURST = 4,        /* a burst is not D to 16,777,216; names the place */
     JUSTRAVE_NEED = 5,         /* a need's j is not 1 to 255, or its L not 1 to 1,073,741,824; names the place */
     JUSTRAVE_RATE_SUM = 6,     /* the rates sum to more than D */
     JUSTRAVE_FINISH = 7,       /* a finish figure is above its need's L; names the lowest such place */
     JUSTRAVE_ENDED = 8,        /* the bytes end inside or before a number */
-    JUSTRAVE_MALFORMED = 9,    /* a number is too large, has a fifth byte with its top bit set, or is not in shortest form */
+    JUSTRAVE_MALFORMED = 9,    /* a number has more than 32 bits or five bytes, or is not in its shortest form */
     JUSTRAVE_BYTES_LEFT = 10,  /* bytes are left after the last place */
     JUSTRAVE_NO_SUCH_PLACE = 11, /* the place is not below N */
     JUSTRAVE_FIRST_SLOT = 12,  /* the first slot number is above JUSTRAVE_MAX_SLOT */
@@ -100,12 +104,12 @@ enum {
     JUSTRAVE_BUFFER = 14,      /* the lent buffer is shorter than the table's bytes */
 
     /* caused by the state */
-    JUSTRAVE_BACKLOG = 21,     /* the post would carry the backlog above 65,535 */
-    JUSTRAVE_SLOT_LIMIT = 22,  /* the slot number stands at its limit; for a run, it would pass it */
+    JUSTRAVE_BACKLOG = 21,     /* more than 65,535 transfers would wait at the place */
+    JUSTRAVE_SLOT_LIMIT = 22,  /* no slot number is left, or for a run too few */
     JUSTRAVE_BROKEN_STATE = 23, /* a word does not fit its field, or the state breaks a rule: no accepted start and calls lead to it */
 
-    /* of the boundary itself, caused by the input and tested before all else: a lent state or answer, or a table given as numbers, has
-       not the right length */
+    /* of the boundary itself, caused by the input and tested before all else: a lent state or answer, or a table given as numbers,
+       does not have the right length */
     JUSTRAVE_LENGTH = 255
 };
 
@@ -138,9 +142,10 @@ size_t justrave_state_words(void);
 uint64_t justrave_start(const uint8_t *table, size_t table_length, uint64_t first, uint64_t *state, size_t state_length);
 
 /*
- * The same for a table given as numbers: D, N, then rate, burst and the need's j and L of each of 16 places. Those past place N-1 are
- * 0. No encoder is needed for a table's bytes: start it from its numbers, and justrave_write has them. Refused 255, then 1, 2, then 3, 4,
- * 5 place by place, then 6, 7, then 12; the words are then all 0, but for 255, which changes nothing.
+ * The same for a table given as numbers, JUSTRAVE_TABLE_NUMBERS of them: D, N, then rate, burst and the need's j and L of each of 16
+ * places. The four numbers of every place past N-1 are 0, or the table is refused 2. Nobody needs an encoder for a table's bytes: start it
+ * from its numbers, and justrave_write writes them. Refused 255; then 1 and 2; then 3, 4 and 5 of each place before the next; then 6, 7
+ * and 12. The words are then all 0, but for 255, which changes nothing.
  */
 uint64_t justrave_start_numbers(const uint32_t *numbers, size_t numbers_length, uint64_t first, uint64_t *state,
                                 size_t state_length);
@@ -155,14 +160,14 @@ uint64_t justrave_post(uint64_t *state, size_t state_length, size_t place, uint3
 uint64_t justrave_slot(uint64_t *state, size_t state_length, uint64_t *answer, size_t answer_length);
 
 /*
- * Does as many slots as the log has bytes, and writes for each the place that was granted, or JUSTRAVE_LOG_IDLE. An empty log means
- * no slot. Refused 255, 23, 13, 22.
+ * Does as many slots as the log has bytes, and writes for each the place that was granted, or JUSTRAVE_LOG_IDLE. A log
+ * without a byte leaves all as it is. Refused 255, 23, 13, 22.
  */
 uint64_t justrave_run(uint64_t *state, size_t state_length, uint8_t *log, size_t log_length);
 
 /*
  * Answers two numbers of slots. The wait: at most so many slots in a row go to the places above. The finish figure: where at least
- * `transfers`, 1 to 255, wait at the place, so many are granted to it within so many slots. Refused 255, 23, 11, 5.
+ * `transfers`, 1 to 255, wait at the place, as many are granted to it within that figure. Refused 255, 23, 11, 5.
  */
 uint64_t justrave_figures(const uint64_t *state, size_t state_length, size_t place, uint32_t transfers, uint64_t *answer,
                           size_t answer_length);

@@ -72,11 +72,11 @@ impl Arbiter {
         Refusal::check(outcome).map(|()| Arbiter { words })
     }
 
-    /// The same for a table given as numbers.
+    /// Starts a table given as numbers, and stands at slot number `first` as a start from its bytes does.
     ///
     /// # Errors
     ///
-    /// 1, 2, then 3, 4, 5 place by place, then 6, 7; and then 12 for the slot number.
+    /// For the table 1 and 2; for each place 3, 4 and 5, before the next place is looked at; then 6, then 7, and for the slot number 12.
     ///
     /// ```
     /// use justrave::{Arbiter, Requestor, Slots, Table, Transfers};

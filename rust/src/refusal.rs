@@ -5,7 +5,7 @@ use core::fmt;
 /// What caused a refusal.
 #[derive(Clone, Copy, Debug, PartialEq, Eq, Hash)]
 pub enum Cause {
-    /// What the call was given: bytes, a slot number, a place, a count, a log or a buffer.
+    /// What the call was given: a table's bytes or numbers, a slot number, a place, a count, a log or a buffer.
     Input,
     /// The state that the call was made on.
     State,
@@ -24,8 +24,8 @@ pub enum Cause {
 /// ```
 #[derive(Clone, Copy, Debug, PartialEq, Eq, Hash)]
 pub struct Refusal {
-    /// Document 01's number: 1 to 14 or 21 to 23. 255 says that the library that was linked has states of another length than
-    /// this crate was written for.
+    /// Document 01's number: 1 to 14 or 21 to 23. 255 says that the library that was linked has states or tables of another
+    /// length than this crate was written for.
     pub number: u8,
     /// The place at fault, where the number names one (3, 4, 5, 7).
     pub place: Option<usize>,
@@ -40,18 +40,14 @@ impl Refusal {
             return Ok(());
         }
         let number = (outcome & 0xFF) as u8;
-        Err(Refusal {
-            number,
-            place: (outcome >> 8).checked_sub(1).map(|place| place as usize),
-            cause: cause(number),
-        })
+        Err(Refusal { number, place: (outcome >> 8).checked_sub(1).map(|place| place as usize), cause: cause(number) })
     }
 
     /// The refusal in a few words.
     pub fn meaning(&self) -> &'static str {
         match self.number {
             1 => "D is outside its limits",
-            2 => "the number of places is outside its limits",
+            2 => "the number of places is outside its limits, or a row past the last place is not 0",
             3 => "a rate is outside its limits",
             4 => "a burst is outside its limits",
             5 => "a need is outside its limits",

@@ -9,9 +9,9 @@ pub struct Requestor {
     pub rate: u32,
     /// What it may save up while it is quiet, in parts of a transfer. The denominator to 16,777,216.
     pub burst: u32,
-    /// So many transfers, waiting together, are all granted ... 1 to 255.
+    /// How many transfers, waiting together, are to be granted within the slots that `within` says. 1 to 255.
     pub need: Transfers,
-    /// ... within so many slots. 1 to 1,073,741,824.
+    /// The slots within which the transfers of `need` are to be granted. 1 to 1,073,741,824.
     pub within: Slots,
 }
 
@@ -45,10 +45,10 @@ impl Table {
     /// The largest number of places.
     pub const PLACES: usize = 16;
     /// How many numbers the library takes for a table: D, N and four to each place.
-    pub(crate) const NUMBERS: usize = 2 + 4 * Table::PLACES;
+    pub const NUMBERS: usize = 2 + 4 * Table::PLACES;
 
     /// The table of these requestors, from place 0 on. There is no room for more than [`Table::PLACES`]: the count then says how
-    /// many they were, and a start refuses it with 2.
+    /// many they were, and no start takes it.
     pub fn of(denominator: u32, requestors: &[Requestor]) -> Table {
         let mut table = Table { denominator, count: narrow(requestors.len() as u64), ..Table::default() };
         for (place, &requestor) in table.requestors.iter_mut().zip(requestors) {

@@ -41,7 +41,7 @@ use Rattle.calls.specs.Calls.{Call, post, slot, grantOf, slotAnswer, done, rule
 use Rattle.calls.specs.Log.{Outcome, slotsState, slotsLog, slotsVerdict, runVerdict, run}
 use Rattle.table_bytes.proofs.Accepted.{stop-read, next-open, read-same, field-open}
 use Rattle.boundary.specs.Boundary.{placeCode, refusalCode, begun}
-use Rattle.boundary.specs.Places.{known, Told, Code-tells, Code-apart, Start-names-below, Start-of-numbers-names-below, Calls-name-below, Runs-name-below, Leads-name-below, Figures-name-below, Write-names-below}
+use Rattle.boundary.specs.Places.{known, Told, Code-tells, Code-apart, Start-names-below, Table-start-names-below, Calls-name-below, Runs-name-below, Leads-name-below, Figures-name-below, Write-names-below}
 
 -- ---- refusals by their number
 
@@ -244,9 +244,9 @@ module _ (limit : ℕ) where
 
 -- ---- the calls
 
-pub start-of-numbers-names-below : Start-of-numbers-names-below
+pub table-start-names-below : Table-start-names-below
 unfolding start startVerdict
-start-of-numbers-names-below limit t first r e =
+table-start-names-below limit t first r e =
     by (startVerdict limit t first)
     (small-then limit (admissionVerdict limit t) _ (small-admission limit t) (λ ok. small-gate limit (refusal 12) (leb first maxSlot) faultless (plain limit 12 refl) (small-none limit))) e
   where
@@ -259,9 +259,9 @@ unfolding begun
 start-names-below limit bytes first r e = by (readTable limit bytes .answer) refl e
   where
     by : (a : Answer) → readTable limit bytes .answer ≡ a → unless a (λ q. record { state = noState limit; answer = refused q }) (start limit (readTable limit bytes .table) first) .answer ≡ refused r → Told limit r
-    by accepted h f = start-of-numbers-names-below limit (readTable limit bytes .table) first r f
-    by (granted stamp p) h f = start-of-numbers-names-below limit (readTable limit bytes .table) first r f
-    by (idle stamp) h f = start-of-numbers-names-below limit (readTable limit bytes .table) first r f
+    by accepted h f = table-start-names-below limit (readTable limit bytes .table) first r f
+    by (granted stamp p) h f = table-start-names-below limit (readTable limit bytes .table) first r f
+    by (idle stamp) h f = table-start-names-below limit (readTable limit bytes .table) first r f
     by (refused q) h f = let same : q ≡ r = cc in small-answer limit bytes r (h ∙ ap refused same)
 
 small-rule : (limit : ℕ) (s : Arbiter) (c : Call) → Small limit (ruleVerdict s c)

@@ -1,5 +1,6 @@
 -- What each call for firmware does to the memory that is lent to it, and its outcome, one number. Document 01's refusals keep their
--- numbers; the boundary adds only 255, for a lent state, answer or table of numbers of a wrong length, ahead of all else. `limit` is the largest N throughout.
+-- numbers; the boundary adds only 255, for a lent state, answer or table of numbers of a wrong length, ahead of all else. `limit` is the
+-- largest N throughout.
 use mathlib.Core.Bool.{Bool, true, _&&_}
 use mathlib.Core.List.{List, [], _∷_}
 use Prim.Native.Nat.{ℕ, _+_, _*_}
@@ -72,7 +73,7 @@ begun limit t first =
 
 -- what a start leaves in the lent words, or what comes of a wrong length
 unfoldable pub leaves : (lengths : Bool) → (words : List ℕ) → Result Arbiter Answer → Stated
-leaves lengths words begun = pick lengths (stated begun) (record { words = words; outcome = wrongLength })
+leaves lengths words made = pick lengths (stated made) (record { words = words; outcome = wrongLength })
 
 unfoldable pub started : ℕ → (bytes : List ℕ) → (first : ℕ) → (words : List ℕ) → Stated
 started limit bytes first words = leaves (rightLength limit words) words (begun limit (readTable limit bytes) first)

@@ -45,8 +45,9 @@ abbrev pub Start-names-below : Type 0
 Start-names-below =
     (limit : ℕ) (bytes : List ℕ) (first : ℕ) (r : Refusal) → begun limit (readTable limit bytes) first .answer ≡ refused r → Told limit r
 
-abbrev pub Start-of-numbers-names-below : Type 0
-Start-of-numbers-names-below = (limit : ℕ) (t : Table) (first : ℕ) (r : Refusal) → start limit t first .answer ≡ refused r → Told limit r
+-- a start of a table, whatever it was given by
+abbrev pub Table-start-names-below : Type 0
+Table-start-names-below = (limit : ℕ) (t : Table) (first : ℕ) (r : Refusal) → start limit t first .answer ≡ refused r → Told limit r
 
 -- a post or a slot
 abbrev pub Calls-name-below : Type 0

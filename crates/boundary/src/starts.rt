@@ -40,12 +40,12 @@ fn begin(table: &[u8], first: Slots) -> StartResult
 }
 
 // What a start came to, into the lent words.
-fn leave(begun: StartResult, state: &mut [u64]) -> u64
-    requires { ⌜ (length (now state) ≡ wordCount maxPlaces) × ((r : Refusal) → startAnswerOf (begun .answer) ≡ refused r → Told maxPlaces r) ⌝ }
-    ensures { λ r. ⌜ record { words = now (state .exit); outcome = r } ≡ stated (startResultOf begun) ⌝ }
+fn leave(made: StartResult, state: &mut [u64]) -> u64
+    requires { ⌜ (length (now state) ≡ wordCount maxPlaces) × ((r : Refusal) → startAnswerOf (made .answer) ≡ refused r → Told maxPlaces r) ⌝ }
+    ensures { λ r. ⌜ record { words = now (state .exit); outcome = r } ≡ stated (startResultOf made) ⌝ }
 {
-    let next = begun.state;
-    let answer = begun.answer;
+    let next = made.state;
+    let answer = made.answer;
     put_state(next, state);
     match answer {
         StartAnswer::Started => 0,
@@ -61,11 +61,11 @@ pub extern "C" fn justrave_start(table: &[u8], first: u64, state: &mut [u64]) ->
     if state.len() != STATE_WORDS {
         return WRONG_LENGTH;
     }
-    let begun = begin(table, Slots(first));
-    leave(begun, state)
+    let made = begin(table, Slots(first));
+    leave(made, state)
 }
 
-// The same of a table given as numbers: 255, then 1 to 7, then 12.
+// The same for a table given as numbers: 255, then 1 to 7, then 12.
 #[no_mangle]
 pub extern "C" fn justrave_start_numbers(numbers: &[u32], first: u64, state: &mut [u64]) -> u64
     ensures { λ r. ⌜ record { words = now (state .exit); outcome = r } ≡ startedOf maxPlaces (now (numbers .entry)) first (now (state .entry)) ⌝ }
@@ -77,6 +77,6 @@ pub extern "C" fn justrave_start_numbers(numbers: &[u32], first: u64, state: &mu
         return WRONG_LENGTH;
     }
     let t = table_of(numbers);
-    let begun = Arbiter::start(t, Slots(first));
-    leave(begun, state)
+    let made = Arbiter::start(t, Slots(first));
+    leave(made, state)
 }

@@ -34,14 +34,18 @@ use Rattle.calls.proofs.Slots.{after-length}
 use Rattle.calls.proofs.Verdicts.{called-unsound}
 use Rattle.calls.proofs.Logs.{run-unsound}
 use Rattle.boundary.specs.Words.{accountWords, stateWords, wordCount, wordsState, rightLength, rowFrom}
-use Rattle.boundary.specs.Numbers.{numbersRow, numbersTable, rightNumbers}
+use Rattle.boundary.specs.Numbers.{allNumbers, numbersRow, numbersTable, rightNumbers}
 use Rattle.boundary.specs.Boundary.{refusalCode, answerCode, wrongLength, onState, stated, begun, posted, leaves, started, startedOf, slotWords, slotStated, slotted, runStated, ran, figuresTold, figured, leadTold, led, Wrote, writeCode, writeTold, wrote}
 use Rattle.boundary.specs.Places.{Told}
-use Rattle.on_words.specs.Claims.{Post-by-value, Start-by-value, Slot-by-value, Run-by-value, Figures-by-value, Lead-by-value, Write-by-value, lentCall, lastTold, In-a-row, Exactly-255, Lengths, Wrong-length, Broken, Broken-words, Start-shaped, Start-of-numbers-shaped, Refused, Clears, Post-refused, Slot-refused, Run-refused, Figures-refused, Lead-refused, Write-refused, Start-refused, Start-of-numbers-refused}
+use Rattle.on_words.specs.Claims.{Post-by-value, Start-by-value, Starts-agree, Slot-by-value, Run-by-value, Figures-by-value, Lead-by-value, Write-by-value, lentCall, lastTold, In-a-row, Exactly-255, Lengths, Wrong-length, Broken, Broken-words, Start-shaped, Start-of-numbers-shaped, Refused, Clears, Post-refused, Slot-refused, Run-refused, Figures-refused, Lead-refused, Write-refused, Start-refused, Start-of-numbers-refused}
 use Rattle.boundary.proofs.Items.{length-places}
 use Rattle.boundary.proofs.RoundTrip.{words-read-back, numbers-read-back}
 use Rattle.boundary.proofs.Boundary.{same-words, called-refused, ran-refused}
-use Rattle.boundary.proofs.Places.{code-apart, start-names-below, start-of-numbers-names-below, calls-name-below, runs-name-below, leads-name-below, figures-name-below, write-names-below}
+use Rattle.boundary.proofs.Places.{code-apart, start-names-below, table-start-names-below, calls-name-below, runs-name-below, leads-name-below, figures-name-below, write-names-below}
+
+and-one : (b : Bool) → (b && true) ≡ b
+and-one true = refl
+and-one false = refl
 
 -- ---- one call
 
@@ -197,6 +201,14 @@ start-shaped limit bytes first = by (readTable limit bytes .answer)
     by (granted stamp p) = made
     by (idle stamp) = made
     by (refused r) = none-shaped limit
+
+pub starts-agree : Starts-agree
+unfolding started startedOf begun
+starts-agree limit bytes first words e =
+    let t = readTable limit bytes .table in
+    let back = numbers-read-back limit t (read-long limit bytes) in
+    let lengths : (rightLength limit words && rightNumbers limit (allNumbers t)) ≡ rightLength limit words = rw (back .0) (and-one (rightLength limit words)) in
+    rw (e, lengths, back .1)
 
 pub start-of-numbers-shaped : Start-of-numbers-shaped
 unfolding numbersTable
@@ -364,7 +376,7 @@ unfolding startedOf
 start-of-numbers-refused limit numbers first words =
     let t = numbersTable limit numbers in
     clears limit (rightLength limit words && rightNumbers limit numbers) words (start limit t first)
-    (started-none limit t first) (start-of-numbers-names-below limit t first)
+    (started-none limit t first) (table-start-names-below limit t first)
 
 -- ---- 255 and 23
 
@@ -395,10 +407,6 @@ leaves-length limit lengths words d tells = cases lengths
     (λ q. rw q ((λ f. true-false f), λ f. absurd (code-never limit (d .answer) tells f)))
     (λ q. rw q ((λ f. refl), λ f. refl))
 
-and-one : (b : Bool) → (b && true) ≡ b
-and-one true = refl
-and-one false = refl
-
 module _ (limit : ℕ) (words : List ℕ) where
   abbrev here : Arbiter
   here = wordsState limit words
@@ -422,7 +430,7 @@ module _ (limit : ℕ) (words : List ℕ) where
   unfolding started startedOf posted slotted ran figured led wrote
   lengths = record {
     start = λ bytes first. leaves-length limit (rightLength limit words) words (begun limit (readTable limit bytes) first) (start-names-below limit bytes first);
-    numbers = λ numbers first. leaves-length limit (rightLength limit words && rightNumbers limit numbers) words (start limit (numbersTable limit numbers) first) (start-of-numbers-names-below limit (numbersTable limit numbers) first);
+    numbers = λ numbers first. leaves-length limit (rightLength limit words && rightNumbers limit numbers) words (start limit (numbersTable limit numbers) first) (table-start-names-below limit (numbersTable limit numbers) first);
     post = λ p count. words-only _ (exactly limit words true _ (λ s. stated (called limit s (post p count))) (λ x. x .outcome) refl (call-length (post p count)));
     slot = λ old. exactly limit words (eqb (length old) 2) _ (λ s. slotStated old (called limit s slot)) (λ x. x .outcome) refl (call-length slot);
     run = λ log. words-only _ (exactly limit words true _ (λ s. runStated (run limit s log)) (λ x. x .outcome) refl (code-never limit (run limit here log .answer) (runs-name-below limit here log)));

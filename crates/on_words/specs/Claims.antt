@@ -11,7 +11,7 @@ use lib.ListN.{length, replicate}
 use Rattle.lists.specs.Runs.{Result, end, answers}
 use Rattle.arbiter.specs.declared.state.Arbiter.{Arbiter}
 use Rattle.arbiter.specs.declared.table.Table.{Table}
-use Rattle.arbiter.specs.Answers.{Answer}
+use Rattle.arbiter.specs.Answers.{Answer, accepted}
 use Rattle.arbiter.specs.State.{sound, Shaped}
 use Rattle.arbiter.specs.Start.{start}
 use Rattle.arbiter.specs.Asked as asked
@@ -35,6 +35,12 @@ abbrev pub Start-by-value : Type 0
 Start-by-value =
     (limit : ℕ) (t : Table) (first : ℕ) (words : List ℕ) → length (t .requestors) ≡ limit → rightLength limit words ≡ true
     → startedOf limit (allNumbers t) first words ≡ stated (start limit t first)
+
+-- a start from accepted bytes, and one from the numbers of the table that was read
+abbrev pub Starts-agree : Type 0
+Starts-agree =
+    (limit : ℕ) (bytes : List ℕ) (first : ℕ) (words : List ℕ) → readTable limit bytes .answer ≡ accepted
+    → started limit bytes first words ≡ startedOf limit (allNumbers (readTable limit bytes .table)) first words
 
 -- `old` is the lent answer; one of a wrong length is 255
 abbrev pub Slot-by-value : Type 0

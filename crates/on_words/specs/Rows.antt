@@ -134,17 +134,20 @@ startRows =
 
 unfoldable pub numberRows : List Row
 numberRows =
-    -- T's numbers are T; case 2's L is refused 7 at place 1, and a number past T's two places 2, whatever field it is
+    -- T's numbers are T; case 2's L is refused 7 at place 1, and a number past T's two places 2, the first of them or the last
     numbering (numbersT 7 (replicate pastT 0)) 0 (unused (wordCount maxPlaces)) fresh 0
     ∷ numbering (numbersT 6 (replicate pastT 0)) 0 (unused (wordCount maxPlaces)) (replicate (wordCount maxPlaces) 0) 519
+    ∷ numbering (numbersT 7 (1 ∷ replicate (pastT - 1) 0)) 0 (unused (wordCount maxPlaces)) (replicate (wordCount maxPlaces) 0) 2
     ∷ numbering (numbersT 7 (replicate (pastT - 1) 0 ++ 1 ∷ [])) 0 (unused (wordCount maxPlaces)) (replicate (wordCount maxPlaces) 0) 2
     -- 7 is ahead of 12
     ∷ numbering (numbersT 7 (replicate pastT 0)) (maxSlot + 1) (unused (wordCount maxPlaces)) (replicate (wordCount maxPlaces) 0) 12
     ∷ numbering (numbersT 6 (replicate pastT 0)) (maxSlot + 1) (unused (wordCount maxPlaces)) (replicate (wordCount maxPlaces) 0) 519
-    -- one number fewer or more, or one word fewer, is 255, and the words stay
+    -- one number fewer or more, or one word fewer or more, is 255, ahead of all else, and the words stay
     ∷ numbering (numbersT 7 (replicate (pastT - 1) 0)) 0 (unused (wordCount maxPlaces)) (unused (wordCount maxPlaces)) 255
     ∷ numbering (numbersT 7 (replicate (pastT + 1) 0)) 0 (unused (wordCount maxPlaces)) (unused (wordCount maxPlaces)) 255
+    ∷ numbering [] (maxSlot + 1) (unused (wordCount maxPlaces)) (unused (wordCount maxPlaces)) 255
     ∷ numbering (numbersT 7 (replicate pastT 0)) 0 (unused (wordCount maxPlaces - 1)) (unused (wordCount maxPlaces - 1)) 255
+    ∷ numbering (numbersT 6 (replicate pastT 0)) 0 (unused (wordCount maxPlaces + 1)) (unused (wordCount maxPlaces + 1)) 255
     ∷ []
 
 unfoldable pub postRows : List Row

@@ -4,7 +4,7 @@ use borrow.Author.Needs.{needs}
 use Rattle.arbiter.specs.Limits.{maxPlaces}
 use Rattle.arbiter.specs.Start.{startResultOf}
 use Rattle.boundary.proofs.Boundary.{words-length, numbers-length, numbers-told}
-use Rattle.boundary.proofs.Places.{start-of-numbers-names-below}
+use Rattle.boundary.proofs.Places.{table-start-names-below}
 use Rattle.boundary.proofs.starts.justrave_start_numbers.Statement.{statement}
 use Rattle.boundary.proofs.starts.justrave_start_numbers.Tie as tie
 
@@ -27,7 +27,7 @@ start-requires c κs = search needs
 leave-requires : tie.Need-leave-requires
 leave-requires c κs =
     let at-args = c .before .before .before .before .before .before .before .args in
-    (c .before .before .before .before .if1 .left, λ r e. start-of-numbers-names-below maxPlaces (c .before .before .table-of .result) (at-args .first) r (ap (λ x. x .answer) (sym (c .before .start .ensures)) ∙ e))
+    (c .before .before .before .before .if1 .left, λ r e. table-start-names-below maxPlaces (c .before .before .table-of .result) (at-args .first) r (ap (λ x. x .answer) (sym (c .before .start .ensures)) ∙ e))
 
 same-length : tie.Need-same-length
 same-length c = search needs
