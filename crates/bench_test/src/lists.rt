@@ -6,10 +6,11 @@ use crate::answering::run_answer;
 use crate::answering::slot_answer;
 use crate::answering::start_answer;
 use crate::answers::Answer;
-use crate::answers::answer_of_state;
 use crate::answers::answer_of_verdict;
+use crate::answers::told;
+use crate::answers::with_accounts;
 use crate::asked;
-use crate::bytes::decimals;
+use crate::bytes::print_bytes;
 use crate::comparing::same_state;
 use crate::fields;
 use crate::fields::MOST;
@@ -58,20 +59,12 @@ fn refusals(s: Arbiter, place: usize, count: u32, j: u32, log: &mut [u8]) {
 }
 
 // A run, and the first nine bytes of its log.
-pub fn run_row(s: Arbiter, log: &mut [u8]) {
+fn run_row(s: Arbiter, log: &mut [u8]) {
     let a = run_answer(s, log);
     print(a);
     if a.refusal == 0 {
-        decimals(log, 9);
+        print_bytes(log, 9, phrases::LEAD);
     }
-}
-
-// Every call with what the row names for it.
-pub fn all_calls_row(s: Arbiter, row: Row, log: &mut [u8]) {
-    let place = number(row, fields::PLACE);
-    let count = narrow(row, fields::COUNT, 0);
-    let j = narrow(row, fields::FOR, 0);
-    refusals(s, place, count, j, log);
 }
 
 // Whether the calls that hand back a state hand back this one, and a run leaves its log alone.
@@ -86,7 +79,7 @@ fn kept_by_all(s: Arbiter, log: &mut [u8]) -> bool {
 
 // 23: a state that breaks a rule is refused by every call that takes one. A post of nothing to place 0, a slot, a run of one byte,
 // and the questions about place 0.
-pub fn state_row(s: Arbiter, log: &mut [u8]) {
+fn state_row(s: Arbiter, log: &mut [u8]) {
     if s.is_sound() {
         say(phrases::SOUND, 0, 0);
         refusals(s, 0, 0, 1, log);
@@ -98,6 +91,16 @@ pub fn state_row(s: Arbiter, log: &mut [u8]) {
         say(phrases::KEPT_BY_ALL, 0, 0);
     } else {
         say(phrases::BROKEN, 0, 0);
+    }
+}
+
+// A row of calls on one state that are lent a log.
+pub fn print_row(call: usize, s: Arbiter, place: usize, count: u32, j: u32, log: &mut [u8]) {
+    match call {
+        asked::RUN => run_row(s, log),
+        asked::LEAD => print(lead_answer(s, place, log)),
+        asked::STATE => state_row(s, log),
+        _ => refusals(s, place, count, j, log),
     }
 }
 
@@ -115,7 +118,7 @@ fn log_byte(a: SlotAnswer) -> u8 {
     }
 }
 
-fn posted(s: Arbiter, row: Row) -> Arbiter {
+fn after_post(s: Arbiter, row: Row) -> Arbiter {
     let count = narrow(row, fields::COUNT, 0);
     let done = post(s, number(row, fields::PLACE), Transfers(count));
     done.state
@@ -129,7 +132,7 @@ fn slots(s: Arbiter, row: Row, log: &mut [u8]) -> Arbiter {
     let mut done: usize = 0;
     while done < log.len() {
         if done == after {
-            state = posted(state, row);
+            state = after_post(state, row);
         }
         let one = slot(state);
         let a = one.answer;
@@ -145,7 +148,7 @@ fn slots(s: Arbiter, row: Row, log: &mut [u8]) -> Arbiter {
 fn as_run(s: Arbiter, by_slots: Arbiter, log: &mut [u8]) {
     let done = run(s, log);
     let after = done.state;
-    decimals(log, 9);
+    print_bytes(log, 9, phrases::LEAD);
     if same_state(by_slots, after) {
         say(phrases::SAME_STATE, 0, 0);
     } else {
@@ -173,10 +176,10 @@ pub fn slots_row(s: Arbiter, row: Row, call: usize, log: &mut [u8]) {
         asked::SLOTS_AS_RUN => as_run(s, after, log),
         asked::FLOOR => say(phrases::FLOOR, floor_of(log), 1 * (3 * 24 - 40)),
         asked::SLOTS_AND_CREDITS => {
-            decimals(log, 24);
-            print(answer_of_state(phrases::CREDITS, 0, 0, after));
+            print_bytes(log, 24, phrases::LEAD);
+            print(with_accounts(told(phrases::CREDITS, 0, 0), after));
         }
-        _ => decimals(log, 24),
+        _ => print_bytes(log, 24, phrases::LEAD),
     }
 }
 
@@ -202,7 +205,7 @@ fn replayed(begun: StartResult, answers: &[u64]) {
     let a = start_answer(begun);
     print(a);
     if a.refusal != 0 {
-        print(answer_of_state(phrases::ACCOUNTS, 0, 0, s));
+        print(with_accounts(told(phrases::ACCOUNTS, 0, 0), s));
     }
     say(phrases::ANSWERS, 0, 0);
     print_words(answers);

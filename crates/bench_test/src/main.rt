@@ -1,4 +1,29 @@
-// HEADER
+// A test program whose tests are data: it reads rows from standard input and prints each with its answer. Document 01's cases, and
+// for each public call every refusal that it can give beside the neighbour that is just accepted, are rows of the file `stdin`; the
+// file `stdout` has the answers as document 01 has them. A new row is a line in each, and no proof.
+//
+// A row is a call and fields, parted by single spaces; a field is its name and its numbers. It is printed with a colon and the
+// answer in document 01's numbers; a refusal says what caused it, and what it kept. A line that begins with -- is a heading.
+//
+//     T                                   table T of document 01; a field named behind it replaces that field
+//     D N                                 one number each
+//     rate burst need within              a number for each place from 0 on; the others are 0
+//     credit backlog                      the same; where no credits are named they are the bursts
+//     slot first place count for room     one number each: the state's slot number, a start's first, a place, a post's count, the
+//                                         figures' j, and how many bytes of a buffer are lent
+//     length each log                     a log's length; the byte that all of it holds; or its bytes
+//     bytes number calls                  bytes in two digits of sixteens; a number; replay's calls, three numbers to each
+//     after                               how many slots are done before the count is posted to the place
+//
+//     admit, start, write_table, table_bytes, replay          of a table
+//     read_table, read_number, write_number, check_input      of bytes, a number, a length
+//     post, slot, slot_of_a_loan, run, lead, figures, check_place    of a state
+//     state        whether it is sound, the number of each call's refusal or 0, and that an unsound state is kept
+//     all_calls    those numbers for this place, count, j and length of the log
+//     slots        so many slots, one call after the other, as a log; slots_as_run and slots_and_credits compare and add; floor is
+//                  case 12's floor over that log
+//
+// A row that has another word in it, or a number that its field cannot hold, is not understood.
 mod answering;
 mod answers;
 mod asked;
@@ -33,49 +58,57 @@ use values::number;
 use values::put_bytes;
 use values::state_of;
 
-// The calls that are lent no bytes.
-fn answer_of(s: Arbiter, row: Row, call: usize) -> Answer {
-    let t = s.table;
-    let place = number(row, fields::PLACE);
+// The calls on a state that are lent no bytes.
+fn answer_of_state(s: Arbiter, call: usize, place: usize, count: u32, j: u32) -> Answer {
     match call {
-        asked::ADMIT => answer_of_verdict(admit(t)),
-        asked::START => {
-            answering::start_answer(Arbiter::start(t, Slots(number_at(row, fields::FIRST, 0))))
-        }
-        asked::POST => answering::post_answer(s, place, narrow(row, fields::COUNT, 0)),
+        asked::POST => answering::post_answer(s, place, count),
         asked::SLOT => answering::slot_answer(s, calls::slot::slot(s)),
         asked::SLOT_OF_A_LOAN => answering::slot_answer(s, in_place::slot_of_a_loan(s)),
-        asked::FIGURES => answering::figures_answer(s, place, narrow(row, fields::FOR, 0)),
+        asked::FIGURES => answering::figures_answer(s, place, j),
         asked::CHECK_PLACE => answer_of_verdict(check_place(s, place)),
-        asked::CHECK_INPUT => answer_of_verdict(check_input(number(row, fields::LENGTH))),
         _ => told(phrases::NOT_UNDERSTOOD, 0, 0),
     }
 }
 
-// The calls that read or write lent bytes.
-fn print_answer(s: Arbiter, row: Row, call: usize, lent: &mut [u8]) {
+// The calls on a table, and the one on a length.
+fn print_unlent(s: Arbiter, row: Row, call: usize) {
     let t = s.table;
+    let first = Slots(number_at(row, fields::FIRST, 0));
     match call {
-        asked::READ_NUMBER => print(bytes::read_number_answer(lent)),
-        asked::READ_TABLE => bytes::read_table_row(lent),
-        asked::WRITE_TABLE => print(bytes::write_table_answer(t, lent)),
-        asked::TABLE_BYTES => bytes::table_bytes_row(t, lent),
-        asked::WRITE_NUMBER => {
-            bytes::write_number_row(
-                narrow(row, fields::NUMBER, 0),
-                number(row, fields::ROOM),
-                lent,
-            )
+        asked::ADMIT => print(answer_of_verdict(admit(t))),
+        asked::START => print(answering::start_answer(Arbiter::start(t, first))),
+        asked::CHECK_INPUT => print(answer_of_verdict(check_input(number(row, fields::LENGTH)))),
+        asked::REPLAY => lists::replay_row(t, row),
+        _ => print(answer_of_state(
+            s,
+            call,
+            number(row, fields::PLACE),
+            narrow(row, fields::COUNT, 0),
+            narrow(row, fields::FOR, 0),
+        )),
+    }
+}
+
+fn print_lent(s: Arbiter, row: Row, call: usize, lent: &mut [u8]) {
+    let t = s.table;
+    let place = number(row, fields::PLACE);
+    let count = narrow(row, fields::COUNT, 0);
+    let j = narrow(row, fields::FOR, 0);
+    let x = narrow(row, fields::NUMBER, 0);
+    let room = number(row, fields::ROOM);
+    match call {
+        asked::READ_NUMBER
+        | asked::READ_TABLE
+        | asked::WRITE_TABLE
+        | asked::TABLE_BYTES
+        | asked::WRITE_NUMBER => bytes::print_row(call, t, x, room, lent),
+        asked::RUN | asked::LEAD | asked::STATE | asked::ALL_CALLS => {
+            lists::print_row(call, s, place, count, j, lent)
         }
-        asked::RUN => lists::run_row(s, lent),
-        asked::LEAD => print(answering::lead_answer(s, number(row, fields::PLACE), lent)),
-        asked::STATE => lists::state_row(s, lent),
-        asked::ALL_CALLS => lists::all_calls_row(s, row, lent),
         asked::SLOTS | asked::SLOTS_AS_RUN | asked::SLOTS_AND_CREDITS | asked::FLOOR => {
             lists::slots_row(s, row, call, lent)
         }
-        asked::REPLAY => lists::replay_row(t, row),
-        _ => print(answer_of(s, row, call)),
+        _ => print_unlent(s, row, call),
     }
 }
 
@@ -86,7 +119,7 @@ fn print_row(row: Row) {
     let length = lent_length(row, call);
     put_bytes(row, &mut memory);
     if length <= 65537 {
-        print_answer(state_of(row), row, call, &mut memory[0..length]);
+        print_lent(state_of(row), row, call, &mut memory[0..length]);
     } else {
         say(phrases::NO_SUCH_ROW, 0, 0);
     }

@@ -19,8 +19,8 @@ number-requires c κs = search needs
 loop-holds : tie.Need-loop-holds Inv-loop μ-loop
 loop-holds c = search needs
 
-posted-requires : tie.Need-posted-requires Inv-loop μ-loop
-posted-requires c κs = search needs
+after-post-requires : tie.Need-after-post-requires Inv-loop μ-loop
+after-post-requires c κs = search needs
 
 slot-requires : tie.Need-slot-requires Inv-loop μ-loop
 slot-requires c κs = search needs
@@ -54,7 +54,7 @@ slots-spec =
     μ-loop
     number-requires
     loop-holds
-    posted-requires
+    after-post-requires
     slot-requires
     log-byte-requires
     slice-write-log
