@@ -10,6 +10,7 @@ use crate::comparing::untouched;
 use crate::phrases;
 use crate::phrases::print;
 use crate::phrases::say;
+use crate::values::Given;
 use arbiter::state::Arbiter;
 use arbiter::table::Table;
 use arbiter::table::bare_table;
@@ -48,7 +49,9 @@ fn read_number_answer(bytes: &[u8]) -> Answer {
 }
 
 // How many bytes the number takes, how many were written, and all of a buffer of which `room` bytes were lent.
-fn write_number_row(x: u32, room: usize, buffer: &mut [u8]) {
+fn write_number_row(g: Given, buffer: &mut [u8]) {
+    let x = g.number;
+    let room = g.room;
     if room <= buffer.len() {
         let wrote = write_number(x, &mut buffer[0..room]);
         say(phrases::WROTE_NUMBER, number_len(x) as u64, wrote as u64);
@@ -141,12 +144,13 @@ fn table_bytes_row(t: Table, buffer: &mut [u8]) {
 }
 
 // A row that reads or writes lent bytes.
-pub fn print_row(call: usize, t: Table, x: u32, room: usize, lent: &mut [u8]) {
+pub fn print_row(t: Table, g: Given, lent: &mut [u8]) {
+    let call = g.call;
     match call {
         asked::READ_NUMBER => print(read_number_answer(lent)),
         asked::READ_TABLE => read_table_row(lent),
         asked::WRITE_TABLE => write_table_row(t, lent),
         asked::TABLE_BYTES => table_bytes_row(t, lent),
-        _ => write_number_row(x, room, lent),
+        _ => write_number_row(g, lent),
     }
 }

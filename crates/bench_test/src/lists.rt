@@ -18,9 +18,8 @@ use crate::phrases;
 use crate::phrases::print;
 use crate::phrases::say;
 use crate::row::Row;
-use crate::row::number_at;
+use crate::values::Given;
 use crate::values::narrow;
-use crate::values::number;
 use arbiter::asked::check_place;
 use arbiter::start::StartResult;
 use arbiter::state::Arbiter;
@@ -95,12 +94,13 @@ fn state_row(s: Arbiter, log: &mut [u8]) {
 }
 
 // A row of calls on one state that are lent a log.
-pub fn print_row(call: usize, s: Arbiter, place: usize, count: u32, j: u32, log: &mut [u8]) {
+pub fn print_row(s: Arbiter, g: Given, log: &mut [u8]) {
+    let call = g.call;
     match call {
         asked::RUN => run_row(s, log),
-        asked::LEAD => print(lead_answer(s, place, log)),
+        asked::LEAD => print(lead_answer(s, g.place, log)),
         asked::STATE => state_row(s, log),
-        _ => refusals(s, place, count, j, log),
+        _ => refusals(s, g.place, g.count, g.j, log),
     }
 }
 
@@ -118,21 +118,19 @@ fn log_byte(a: SlotAnswer) -> u8 {
     }
 }
 
-fn after_post(s: Arbiter, row: Row) -> Arbiter {
-    let count = narrow(row, fields::COUNT, 0);
-    let done = post(s, number(row, fields::PLACE), Transfers(count));
+fn after_post(s: Arbiter, g: Given) -> Arbiter {
+    let done = post(s, g.place, Transfers(g.count));
     done.state
 }
 
 // As many slots as the log has bytes, one call after the other. When `after` of them are done the row's count is posted; a row
 // that names none posts nothing.
-fn slots(s: Arbiter, row: Row, log: &mut [u8]) -> Arbiter {
-    let after = number(row, fields::AFTER);
+fn slots(s: Arbiter, g: Given, log: &mut [u8]) -> Arbiter {
     let mut state = s;
     let mut done: usize = 0;
     while done < log.len() {
-        if done == after {
-            state = after_post(state, row);
+        if done == g.after {
+            state = after_post(state, g);
         }
         let one = slot(state);
         let a = one.answer;
@@ -170,8 +168,9 @@ fn floor_of(log: &[u8]) -> u64 {
 }
 
 // Case 12's floor stands against n * (R * L - B), with L = 24 and B = 40.
-pub fn slots_row(s: Arbiter, row: Row, call: usize, log: &mut [u8]) {
-    let after = slots(s, row, log);
+pub fn slots_row(s: Arbiter, g: Given, log: &mut [u8]) {
+    let call = g.call;
+    let after = slots(s, g, log);
     match call {
         asked::SLOTS_AS_RUN => as_run(s, after, log),
         asked::FLOOR => say(phrases::FLOOR, floor_of(log), 1 * (3 * 24 - 40)),
@@ -217,17 +216,12 @@ fn replay_over(t: Table, first: u64, calls: &[u32], answers: &mut [u64]) {
 }
 
 // Three numbers to a call and to an answer; an answer that was not written is 7s.
-pub fn replay_row(t: Table, row: Row) {
+pub fn replay_row(t: Table, first: u64, row: Row) {
     let mut calls = [0u32; MOST];
     let mut answers = [7u64; 18];
     put_calls(row, &mut calls);
     let count = row.counts[fields::CALLS];
     if count <= MOST {
-        replay_over(
-            t,
-            number_at(row, fields::FIRST, 0),
-            &calls[0..count],
-            &mut answers,
-        );
+        replay_over(t, first, &calls[0..count], &mut answers);
     }
 }

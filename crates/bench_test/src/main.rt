@@ -49,79 +49,78 @@ use libc::STDOUT_FILENO;
 use phrases::print;
 use phrases::say;
 use row::Row;
-use row::number_at;
 use row::row_of;
+use values::Given;
 use values::fill_of;
+use values::given_by;
 use values::lent_length;
-use values::narrow;
-use values::number;
 use values::put_bytes;
 use values::state_of;
 
 // The calls on a state that are lent no bytes.
-fn answer_of_state(s: Arbiter, call: usize, place: usize, count: u32, j: u32) -> Answer {
+fn answer_of_state(s: Arbiter, g: Given) -> Answer {
+    let call = g.call;
     match call {
-        asked::POST => answering::post_answer(s, place, count),
+        asked::POST => answering::post_answer(s, g.place, g.count),
         asked::SLOT => answering::slot_answer(s, calls::slot::slot(s)),
         asked::SLOT_OF_A_LOAN => answering::slot_answer(s, in_place::slot_of_a_loan(s)),
-        asked::FIGURES => answering::figures_answer(s, place, j),
-        asked::CHECK_PLACE => answer_of_verdict(check_place(s, place)),
+        asked::FIGURES => answering::figures_answer(s, g.place, g.j),
+        asked::CHECK_PLACE => answer_of_verdict(check_place(s, g.place)),
         _ => told(phrases::NOT_UNDERSTOOD, 0, 0),
     }
 }
 
 // The calls on a table, and the one on a length.
-fn print_unlent(s: Arbiter, row: Row, call: usize) {
+fn unlent_answer(s: Arbiter, g: Given) -> Answer {
     let t = s.table;
-    let first = Slots(number_at(row, fields::FIRST, 0));
+    let call = g.call;
     match call {
-        asked::ADMIT => print(answer_of_verdict(admit(t))),
-        asked::START => print(answering::start_answer(Arbiter::start(t, first))),
-        asked::CHECK_INPUT => print(answer_of_verdict(check_input(number(row, fields::LENGTH)))),
-        asked::REPLAY => lists::replay_row(t, row),
-        _ => print(answer_of_state(
-            s,
-            call,
-            number(row, fields::PLACE),
-            narrow(row, fields::COUNT, 0),
-            narrow(row, fields::FOR, 0),
-        )),
+        asked::ADMIT => answer_of_verdict(admit(t)),
+        asked::START => answering::start_answer(Arbiter::start(t, Slots(g.first))),
+        asked::CHECK_INPUT => answer_of_verdict(check_input(g.length)),
+        _ => answer_of_state(s, g),
     }
 }
 
-fn print_lent(s: Arbiter, row: Row, call: usize, lent: &mut [u8]) {
+fn print_lent(s: Arbiter, g: Given, lent: &mut [u8]) {
     let t = s.table;
-    let place = number(row, fields::PLACE);
-    let count = narrow(row, fields::COUNT, 0);
-    let j = narrow(row, fields::FOR, 0);
-    let x = narrow(row, fields::NUMBER, 0);
-    let room = number(row, fields::ROOM);
+    let call = g.call;
     match call {
         asked::READ_NUMBER
         | asked::READ_TABLE
         | asked::WRITE_TABLE
         | asked::TABLE_BYTES
-        | asked::WRITE_NUMBER => bytes::print_row(call, t, x, room, lent),
+        | asked::WRITE_NUMBER => bytes::print_row(t, g, lent),
         asked::RUN | asked::LEAD | asked::STATE | asked::ALL_CALLS => {
-            lists::print_row(call, s, place, count, j, lent)
+            lists::print_row(s, g, lent)
         }
         asked::SLOTS | asked::SLOTS_AS_RUN | asked::SLOTS_AND_CREDITS | asked::FLOOR => {
-            lists::slots_row(s, row, call, lent)
+            lists::slots_row(s, g, lent)
         }
-        _ => print_unlent(s, row, call),
+        _ => print(unlent_answer(s, g)),
     }
 }
 
 // One byte more than a log may have is there to be lent.
-fn print_row(row: Row) {
+fn print_with_memory(s: Arbiter, g: Given, row: Row) {
     let mut memory = [fill_of(row); 65537];
-    let call = row.call;
-    let length = lent_length(row, call);
+    let length = lent_length(row, g);
     put_bytes(row, &mut memory);
     if length <= 65537 {
-        print_lent(state_of(row), row, call, &mut memory[0..length]);
+        print_lent(s, g, &mut memory[0..length]);
     } else {
         say(phrases::NO_SUCH_ROW, 0, 0);
+    }
+}
+
+fn print_row(row: Row) {
+    let g = given_by(row);
+    let s = state_of(row);
+    let t = s.table;
+    if g.call == asked::REPLAY {
+        lists::replay_row(t, g.first, row);
+    } else {
+        print_with_memory(s, g, row);
     }
 }
 
