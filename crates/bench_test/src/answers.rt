@@ -1,4 +1,5 @@
 // What a call came to, as the numbers that are printed of it.
+use crate::comparing::same_state;
 use crate::phrases;
 use arbiter::refusals::Cause;
 use arbiter::refusals::Named;
@@ -23,39 +24,6 @@ pub fn told(phrase: usize, x: u64, y: u64) -> Answer {
     }
 }
 
-// With the credits and the backlogs of places 0 and 1, and the slot number.
-pub fn answer_of_state(phrase: usize, x: u64, y: u64, s: Arbiter) -> Answer {
-    let a = s.accounts[0];
-    let b = s.accounts[1];
-    let p = a.backlog;
-    let q = b.backlog;
-    let slot = s.slot;
-    Answer {
-        phrase: phrase,
-        tail: phrases::NOTHING,
-        refusal: 0,
-        numbers: [
-            x,
-            y,
-            a.credit as u64,
-            b.credit as u64,
-            p.0 as u64,
-            q.0 as u64,
-            slot.0,
-        ],
-    }
-}
-
-// The same answer with a claim that has to hold.
-pub fn claiming(a: Answer, claim: usize, holds: bool) -> Answer {
-    let mut claimed = a;
-    claimed.tail = phrases::BROKEN;
-    if holds {
-        claimed.tail = claim;
-    }
-    claimed
-}
-
 fn by_origin(number: u64, by: Origin, named: Named) -> Answer {
     match by {
         Origin::State => told(phrases::STATE, number, 0),
@@ -66,19 +34,68 @@ fn by_origin(number: u64, by: Origin, named: Named) -> Answer {
     }
 }
 
-// The refusal's number, what caused it and the place that it names; and a claim that has to hold.
-pub fn refused(c: Cause, claim: usize, holds: bool) -> Answer {
+// The refusal's number, what caused it and the place that it names.
+pub fn refused(c: Cause) -> Answer {
     let r = c.refusal();
     let named = r.place;
     let by = r.origin;
     let mut a = by_origin(r.number as u64, by, named);
     a.refusal = r.number as u64;
-    claiming(a, claim, holds)
+    a
 }
 
 pub fn answer_of_verdict(v: Verdict) -> Answer {
     match v {
         Verdict::Faultless => told(phrases::FAULTLESS, 0, 0),
-        Verdict::Fault(c) => refused(c, phrases::NOTHING, true),
+        Verdict::Fault(c) => refused(c),
     }
+}
+
+// An answer with a claim, which has to hold as every claim before it had to.
+pub fn claiming(a: Answer, claim: usize, holds: bool) -> Answer {
+    let mut claimed = a;
+    if !holds {
+        claimed.tail = phrases::BROKEN;
+    }
+    if claimed.tail != phrases::BROKEN {
+        claimed.tail = claim;
+    }
+    claimed
+}
+
+// A refused call makes a claim of what it kept or cleared.
+pub fn claiming_if_refused(a: Answer, claim: usize, holds: bool) -> Answer {
+    if a.refusal == 0 {
+        return a;
+    }
+    claiming(a, claim, holds)
+}
+
+// With the credits and the backlogs of places 0 and 1, and the slot number.
+pub fn with_accounts(a: Answer, s: Arbiter) -> Answer {
+    let x = s.accounts[0];
+    let y = s.accounts[1];
+    let p = x.backlog;
+    let q = y.backlog;
+    let slot = s.slot;
+    Answer {
+        phrase: a.phrase,
+        tail: a.tail,
+        refusal: a.refusal,
+        numbers: [
+            a.numbers[0],
+            a.numbers[1],
+            x.credit as u64,
+            y.credit as u64,
+            p.0 as u64,
+            q.0 as u64,
+            slot.0,
+        ],
+    }
+}
+
+// Of a call that handed back a state, which has to be `kept` if the call was refused.
+pub fn of_state(a: Answer, claim: usize, kept: Arbiter, after: Arbiter) -> Answer {
+    let holds = same_state(kept, after);
+    with_accounts(claiming_if_refused(a, claim, holds), after)
 }

@@ -36,24 +36,28 @@ fn head_difference(a: Arbiter, b: Arbiter) -> u64 {
     apart(s.denominator, t.denominator) | ((s.count as u64) ^ (t.count as u64)) | (x.0 ^ y.0)
 }
 
-pub fn same_state(a: Arbiter, b: Arbiter) -> bool {
-    let s = a.table;
-    let t = b.table;
-    let mut found = head_difference(a, b);
-    let mut p: usize = 0;
-    while p < Arbiter::MAX_PLACES {
+// Of one place, and 0 for what is none.
+fn place_difference(a: Arbiter, b: Arbiter, p: usize) -> u64 {
+    if p < Arbiter::MAX_PLACES {
+        let s = a.table;
+        let t = b.table;
         let x = s.requestors[p];
         let y = t.requestors[p];
         let u = a.accounts[p];
         let v = b.accounts[p];
-        found = found | row_difference(x, y) | account_difference(u, v);
+        return row_difference(x, y) | account_difference(u, v);
+    }
+    0
+}
+
+pub fn same_state(a: Arbiter, b: Arbiter) -> bool {
+    let mut found = head_difference(a, b);
+    let mut p: usize = 0;
+    while p < Arbiter::MAX_PLACES {
+        found = found | place_difference(a, b, p);
         p = p + 1;
     }
     found == 0
-}
-
-pub fn is_zero(s: Arbiter) -> bool {
-    same_state(s, no_state())
 }
 
 // A state that is 0 but for its table, so that tables are compared as states are.

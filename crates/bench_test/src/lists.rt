@@ -6,10 +6,11 @@ use crate::answering::run_answer;
 use crate::answering::slot_answer;
 use crate::answering::start_answer;
 use crate::answers::Answer;
-use crate::answers::answer_of_state;
 use crate::answers::answer_of_verdict;
+use crate::answers::told;
+use crate::answers::with_accounts;
 use crate::asked;
-use crate::bytes::decimals;
+use crate::bytes::print_bytes;
 use crate::comparing::same_state;
 use crate::fields;
 use crate::fields::MOST;
@@ -17,9 +18,8 @@ use crate::phrases;
 use crate::phrases::print;
 use crate::phrases::say;
 use crate::row::Row;
-use crate::row::number_at;
+use crate::values::Given;
 use crate::values::narrow;
-use crate::values::number;
 use arbiter::asked::check_place;
 use arbiter::start::StartResult;
 use arbiter::state::Arbiter;
@@ -58,20 +58,12 @@ fn refusals(s: Arbiter, place: usize, count: u32, j: u32, log: &mut [u8]) {
 }
 
 // A run, and the first nine bytes of its log.
-pub fn run_row(s: Arbiter, log: &mut [u8]) {
+fn run_row(s: Arbiter, log: &mut [u8]) {
     let a = run_answer(s, log);
     print(a);
     if a.refusal == 0 {
-        decimals(log, 9);
+        print_bytes(log, 9, phrases::LEAD);
     }
-}
-
-// Every call with what the row names for it.
-pub fn all_calls_row(s: Arbiter, row: Row, log: &mut [u8]) {
-    let place = number(row, fields::PLACE);
-    let count = narrow(row, fields::COUNT, 0);
-    let j = narrow(row, fields::FOR, 0);
-    refusals(s, place, count, j, log);
 }
 
 // Whether the calls that hand back a state hand back this one, and a run leaves its log alone.
@@ -86,7 +78,7 @@ fn kept_by_all(s: Arbiter, log: &mut [u8]) -> bool {
 
 // 23: a state that breaks a rule is refused by every call that takes one. A post of nothing to place 0, a slot, a run of one byte,
 // and the questions about place 0.
-pub fn state_row(s: Arbiter, log: &mut [u8]) {
+fn state_row(s: Arbiter, log: &mut [u8]) {
     if s.is_sound() {
         say(phrases::SOUND, 0, 0);
         refusals(s, 0, 0, 1, log);
@@ -98,6 +90,17 @@ pub fn state_row(s: Arbiter, log: &mut [u8]) {
         say(phrases::KEPT_BY_ALL, 0, 0);
     } else {
         say(phrases::BROKEN, 0, 0);
+    }
+}
+
+// A row of calls on one state that are lent a log.
+pub fn print_row(s: Arbiter, g: Given, log: &mut [u8]) {
+    let call = g.call;
+    match call {
+        asked::RUN => run_row(s, log),
+        asked::LEAD => print(lead_answer(s, g.place, log)),
+        asked::STATE => state_row(s, log),
+        _ => refusals(s, g.place, g.count, g.j, log),
     }
 }
 
@@ -115,21 +118,19 @@ fn log_byte(a: SlotAnswer) -> u8 {
     }
 }
 
-fn posted(s: Arbiter, row: Row) -> Arbiter {
-    let count = narrow(row, fields::COUNT, 0);
-    let done = post(s, number(row, fields::PLACE), Transfers(count));
+fn after_post(s: Arbiter, g: Given) -> Arbiter {
+    let done = post(s, g.place, Transfers(g.count));
     done.state
 }
 
 // As many slots as the log has bytes, one call after the other. When `after` of them are done the row's count is posted; a row
 // that names none posts nothing.
-fn slots(s: Arbiter, row: Row, log: &mut [u8]) -> Arbiter {
-    let after = number(row, fields::AFTER);
+fn slots(s: Arbiter, g: Given, log: &mut [u8]) -> Arbiter {
     let mut state = s;
     let mut done: usize = 0;
     while done < log.len() {
-        if done == after {
-            state = posted(state, row);
+        if done == g.after {
+            state = after_post(state, g);
         }
         let one = slot(state);
         let a = one.answer;
@@ -145,7 +146,7 @@ fn slots(s: Arbiter, row: Row, log: &mut [u8]) -> Arbiter {
 fn as_run(s: Arbiter, by_slots: Arbiter, log: &mut [u8]) {
     let done = run(s, log);
     let after = done.state;
-    decimals(log, 9);
+    print_bytes(log, 9, phrases::LEAD);
     if same_state(by_slots, after) {
         say(phrases::SAME_STATE, 0, 0);
     } else {
@@ -167,16 +168,17 @@ fn floor_of(log: &[u8]) -> u64 {
 }
 
 // Case 12's floor stands against n * (R * L - B), with L = 24 and B = 40.
-pub fn slots_row(s: Arbiter, row: Row, call: usize, log: &mut [u8]) {
-    let after = slots(s, row, log);
+pub fn slots_row(s: Arbiter, g: Given, log: &mut [u8]) {
+    let call = g.call;
+    let after = slots(s, g, log);
     match call {
         asked::SLOTS_AS_RUN => as_run(s, after, log),
         asked::FLOOR => say(phrases::FLOOR, floor_of(log), 1 * (3 * 24 - 40)),
         asked::SLOTS_AND_CREDITS => {
-            decimals(log, 24);
-            print(answer_of_state(phrases::CREDITS, 0, 0, after));
+            print_bytes(log, 24, phrases::LEAD);
+            print(with_accounts(told(phrases::CREDITS, 0, 0), after));
         }
-        _ => decimals(log, 24),
+        _ => print_bytes(log, 24, phrases::LEAD),
     }
 }
 
@@ -202,7 +204,7 @@ fn replayed(begun: StartResult, answers: &[u64]) {
     let a = start_answer(begun);
     print(a);
     if a.refusal != 0 {
-        print(answer_of_state(phrases::ACCOUNTS, 0, 0, s));
+        print(with_accounts(told(phrases::ACCOUNTS, 0, 0), s));
     }
     say(phrases::ANSWERS, 0, 0);
     print_words(answers);
@@ -214,17 +216,12 @@ fn replay_over(t: Table, first: u64, calls: &[u32], answers: &mut [u64]) {
 }
 
 // Three numbers to a call and to an answer; an answer that was not written is 7s.
-pub fn replay_row(t: Table, row: Row) {
+pub fn replay_row(t: Table, first: u64, row: Row) {
     let mut calls = [0u32; MOST];
     let mut answers = [7u64; 18];
     put_calls(row, &mut calls);
     let count = row.counts[fields::CALLS];
     if count <= MOST {
-        replay_over(
-            t,
-            number_at(row, fields::FIRST, 0),
-            &calls[0..count],
-            &mut answers,
-        );
+        replay_over(t, first, &calls[0..count], &mut answers);
     }
 }

@@ -1,4 +1,29 @@
-// HEADER
+// A test program whose tests are data: it reads rows from standard input and prints each with its answer. Document 01's cases, and
+// for each public call every refusal that it can give beside the neighbour that is just accepted, are rows of the file `stdin`; the
+// file `stdout` has the answers as document 01 has them. A new row is a line in each, and no proof.
+//
+// A row is a call and fields, parted by single spaces; a field is its name and its numbers. It is printed with a colon and the
+// answer in document 01's numbers; a refusal says what caused it, and what it kept. A line that begins with -- is a heading.
+//
+//     T                                   table T of document 01; a field named behind it replaces that field
+//     D N                                 one number each
+//     rate burst need within              a number for each place from 0 on; the others are 0
+//     credit backlog                      the same; where no credits are named they are the bursts
+//     slot first place count for room     one number each: the state's slot number, a start's first, a place, a post's count, the
+//                                         figures' j, and how many bytes of a buffer are lent
+//     length each log                     a log's length; the byte that all of it holds; or its bytes
+//     bytes number calls                  bytes in two digits of sixteens; a number; replay's calls, three numbers to each
+//     after                               how many slots are done before the count is posted to the place
+//
+//     admit, start, write_table, table_bytes, replay          of a table
+//     read_table, read_number, write_number, check_input      of bytes, a number, a length
+//     post, slot, slot_of_a_loan, run, lead, figures, check_place    of a state
+//     state        whether it is sound, the number of each call's refusal or 0, and that an unsound state is kept
+//     all_calls    those numbers for this place, count, j and length of the log
+//     slots        so many slots, one call after the other, as a log; slots_as_run and slots_and_credits compare and add; floor is
+//                  case 12's floor over that log
+//
+// A row that has another word in it, or a number that its field cannot hold, is not understood.
 mod answering;
 mod answers;
 mod asked;
@@ -24,71 +49,78 @@ use libc::STDOUT_FILENO;
 use phrases::print;
 use phrases::say;
 use row::Row;
-use row::number_at;
 use row::row_of;
+use values::Given;
 use values::fill_of;
+use values::given_by;
 use values::lent_length;
-use values::narrow;
-use values::number;
 use values::put_bytes;
 use values::state_of;
 
-// The calls that are lent no bytes.
-fn answer_of(s: Arbiter, row: Row, call: usize) -> Answer {
-    let t = s.table;
-    let place = number(row, fields::PLACE);
+// The calls on a state that are lent no bytes.
+fn answer_of_state(s: Arbiter, g: Given) -> Answer {
+    let call = g.call;
     match call {
-        asked::ADMIT => answer_of_verdict(admit(t)),
-        asked::START => {
-            answering::start_answer(Arbiter::start(t, Slots(number_at(row, fields::FIRST, 0))))
-        }
-        asked::POST => answering::post_answer(s, place, narrow(row, fields::COUNT, 0)),
+        asked::POST => answering::post_answer(s, g.place, g.count),
         asked::SLOT => answering::slot_answer(s, calls::slot::slot(s)),
         asked::SLOT_OF_A_LOAN => answering::slot_answer(s, in_place::slot_of_a_loan(s)),
-        asked::FIGURES => answering::figures_answer(s, place, narrow(row, fields::FOR, 0)),
-        asked::CHECK_PLACE => answer_of_verdict(check_place(s, place)),
-        asked::CHECK_INPUT => answer_of_verdict(check_input(number(row, fields::LENGTH))),
+        asked::FIGURES => answering::figures_answer(s, g.place, g.j),
+        asked::CHECK_PLACE => answer_of_verdict(check_place(s, g.place)),
         _ => told(phrases::NOT_UNDERSTOOD, 0, 0),
     }
 }
 
-// The calls that read or write lent bytes.
-fn print_answer(s: Arbiter, row: Row, call: usize, lent: &mut [u8]) {
+// The calls on a table, and the one on a length.
+fn unlent_answer(s: Arbiter, g: Given) -> Answer {
     let t = s.table;
+    let call = g.call;
     match call {
-        asked::READ_NUMBER => print(bytes::read_number_answer(lent)),
-        asked::READ_TABLE => bytes::read_table_row(lent),
-        asked::WRITE_TABLE => print(bytes::write_table_answer(t, lent)),
-        asked::TABLE_BYTES => bytes::table_bytes_row(t, lent),
-        asked::WRITE_NUMBER => {
-            bytes::write_number_row(
-                narrow(row, fields::NUMBER, 0),
-                number(row, fields::ROOM),
-                lent,
-            )
+        asked::ADMIT => answer_of_verdict(admit(t)),
+        asked::START => answering::start_answer(Arbiter::start(t, Slots(g.first))),
+        asked::CHECK_INPUT => answer_of_verdict(check_input(g.length)),
+        _ => answer_of_state(s, g),
+    }
+}
+
+fn print_lent(s: Arbiter, g: Given, lent: &mut [u8]) {
+    let t = s.table;
+    let call = g.call;
+    match call {
+        asked::READ_NUMBER
+        | asked::READ_TABLE
+        | asked::WRITE_TABLE
+        | asked::TABLE_BYTES
+        | asked::WRITE_NUMBER => bytes::print_row(t, g, lent),
+        asked::RUN | asked::LEAD | asked::STATE | asked::ALL_CALLS => {
+            lists::print_row(s, g, lent)
         }
-        asked::RUN => lists::run_row(s, lent),
-        asked::LEAD => print(answering::lead_answer(s, number(row, fields::PLACE), lent)),
-        asked::STATE => lists::state_row(s, lent),
-        asked::ALL_CALLS => lists::all_calls_row(s, row, lent),
         asked::SLOTS | asked::SLOTS_AS_RUN | asked::SLOTS_AND_CREDITS | asked::FLOOR => {
-            lists::slots_row(s, row, call, lent)
+            lists::slots_row(s, g, lent)
         }
-        asked::REPLAY => lists::replay_row(t, row),
-        _ => print(answer_of(s, row, call)),
+        _ => print(unlent_answer(s, g)),
     }
 }
 
 // One byte more than a log may have is there to be lent.
-fn print_row(row: Row) {
+fn print_with_memory(s: Arbiter, g: Given, row: Row) {
     let mut memory = [fill_of(row); 65537];
-    let call = row.call;
-    let length = lent_length(row, call);
+    let length = lent_length(row, g);
     put_bytes(row, &mut memory);
     if length <= 65537 {
-        print_answer(state_of(row), row, call, &mut memory[0..length]);
+        print_lent(s, g, &mut memory[0..length]);
     } else {
         say(phrases::NO_SUCH_ROW, 0, 0);
+    }
+}
+
+fn print_row(row: Row) {
+    let g = given_by(row);
+    let s = state_of(row);
+    let t = s.table;
+    if g.call == asked::REPLAY {
+        lists::replay_row(t, g.first, row);
+    } else {
+        print_with_memory(s, g, row);
     }
 }
 

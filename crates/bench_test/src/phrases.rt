@@ -1,4 +1,5 @@
-// What is printed of an answer, by name. In a phrase a digit stands for one of the answer's numbers, and a bar ends it.
+// What is printed of an answer, by name. In a phrase a digit stands for one of the answer's numbers, an H
+// for the first of them as two digits in sixteens, and a bar ends it.
 use crate::answers::Answer;
 use crate::answers::told;
 use libc::STDOUT_FILENO;
@@ -81,6 +82,8 @@ pub const NO_SUCH_ROW: usize = 36;
 
 pub const NOT_UNDERSTOOD: usize = 37;
 
+pub const BYTE: usize = 38;
+
 fn wide(x: u8) -> usize {
     x as usize
 }
@@ -88,6 +91,10 @@ fn wide(x: u8) -> usize {
 // A byte of a phrase, or the number that it stands for.
 fn print_byte(byte: u8, a: Answer) {
     let k = wide(wrapping_sub_u8(byte, b'0'));
+    if byte == b'H' {
+        io::print_hex(STDOUT_FILENO, a.numbers[0], 2);
+        return;
+    }
     if k < 7 {
         io::print_decimal(STDOUT_FILENO, a.numbers[k]);
     } else {
@@ -117,7 +124,7 @@ fn print_phrase(phrases: &[u8], wanted: usize, a: Answer) {
 
 fn print_one(phrase: usize, a: Answer) {
     print_phrase(
-        b"| faultless| refused 0 input| refused 0 input place 1| refused 0 state| started credits 2 3 backlogs 4 5 slot 6| accepted credits 2 3 backlogs 4 5 slot 6| granted 0 stamp 1 credits 2 3 backlogs 4 5 slot 6| idle stamp 1 credits 2 3 backlogs 4 5 slot 6| ran credits 2 3 backlogs 4 5 slot 6 log| credits 2 3 backlogs 4 5 slot 6| wait 0 finish 1| 0| -0| wrote 0| 0 in 1| ended| malformed| takes 0 wrote 1,| accepted 0 1| 0 1 2 3| post 0 slot 1 run 2 lead 3 figures 4 check_place 5| sound,| unsound,| credits 2 3| 0 against 1| answers|, state zero|, table zero|, state kept|, state kept, log kept|, buffer kept|, reads back, beyond kept|, state kept, kept by run|, the state of the nine slots|, NOT SO| no such row| not understood",
+        b"| faultless| refused 0 input| refused 0 input place 1| refused 0 state| started credits 2 3 backlogs 4 5 slot 6| accepted credits 2 3 backlogs 4 5 slot 6| granted 0 stamp 1 credits 2 3 backlogs 4 5 slot 6| idle stamp 1 credits 2 3 backlogs 4 5 slot 6| ran credits 2 3 backlogs 4 5 slot 6 log| credits 2 3 backlogs 4 5 slot 6| wait 0 finish 1| 0| -0| wrote 0| 0 in 1| ended| malformed| takes 0 wrote 1,| accepted 0 1| 0 1 2 3| post 0 slot 1 run 2 lead 3 figures 4 check_place 5| sound,| unsound,| credits 2 3| 0 against 1| answers|, state zero|, table zero|, state kept|, state kept, log kept|, buffer kept|, reads back, beyond kept|, state kept, kept by run|, the state of the nine slots|, NOT SO| no such row| not understood| H",
         phrase,
         a,
     );

@@ -4,10 +4,10 @@ use crate::fields;
 use crate::fields::FIELDS;
 use crate::fields::MOST;
 use crate::fields::field_by;
-use crate::fields::form_of;
-use crate::words::Number;
-use crate::words::decimal;
-use crate::words::octet;
+use crate::fields::largest;
+use crate::words::Word;
+use crate::words::longer;
+use crate::words::no_word;
 
 const NUMBERS: usize = FIELDS * MOST;
 
@@ -36,7 +36,7 @@ fn no_row() -> Row {
     Row {
         understood: true,
         call: 0,
-        field: fields::CALL,
+        field: 0,
         counts: [0; FIELDS],
         numbers: numbers,
     }
@@ -54,92 +54,96 @@ fn with_t(row: Row) -> Row {
     next
 }
 
-// The field that was named last has the numbers that it needs.
-fn finished(row: Row) -> Row {
-    let mut next = row;
-    let field = row.field;
-    let form = form_of(field);
-    if field < FIELDS {
-        if row.counts[field] < form.least {
-            next.understood = false;
-        }
-    }
-    next
-}
-
 // A field is named: its numbers begin anew.
 fn with_field(row: Row, field: usize) -> Row {
-    let mut next = finished(row);
-    if row.field < field {
-        if field < FIELDS {
-            next.field = field;
-            next.counts[field] = 0;
-            if field == fields::T {
-                return with_t(next);
-            }
-            return next;
-        }
+    let mut next = row;
+    next.field = field;
+    if field == 0 {
+        next.understood = false;
     }
-    next.understood = false;
+    if field < FIELDS {
+        next.counts[field] = 0;
+    }
+    if field == fields::T {
+        return with_t(next);
+    }
     next
 }
 
+// A number for the field that was named last, if the field can hold it.
 fn with_number(row: Row, x: u64) -> Row {
     let mut next = row;
     let field = row.field;
-    let form = form_of(field);
     if field < FIELDS {
         let k = row.counts[field];
         if k < MOST {
-            if k < form.most {
-                if x <= form.largest {
-                    next.numbers[field * MOST + k] = x;
-                    next.counts[field] = k + 1;
-                    return next;
-                }
-            }
+            next.numbers[field * MOST + k] = x;
+            next.counts[field] = k + 1;
         }
     }
-    next.understood = false;
+    next.understood = row.understood & (field != 0) & (x <= largest(field));
     next
 }
 
-// Bytes are in sixteens, and all other numbers in tens.
-fn number_in(field: usize, word: &[u8]) -> Number {
-    if field == fields::BYTES {
-        octet(word)
-    } else {
-        decimal(word)
-    }
-}
-
-// The word at the start of a row is its call; each later one is a number of the present field, or names a field.
-fn with_word(row: Row, at: usize, word: &[u8]) -> Row {
+// The word at the start of a row is its call; each later one is a number of the field that was named last, bytes in sixteens and all
+// others in tens, or it names a field.
+fn with_word(row: Row, at: usize, w: Word) -> Row {
     let mut next = row;
     if at == 0 {
-        next.call = asked_by(word);
+        next.call = asked_by(w);
         return next;
     }
-    let x = number_in(row.field, word);
-    if x.is_one {
-        return with_number(row, x.value);
+    if row.field == fields::BYTES {
+        if w.is_sixteens & (w.length == 2) {
+            return with_number(row, w.sixteens);
+        }
+    } else {
+        if w.is_tens & (w.length != 0) {
+            return with_number(row, w.tens);
+        }
     }
-    with_field(row, field_by(word))
+    with_field(row, field_by(w))
+}
+
+// What is read of a line: the row, and the word that is being read, which is the one at `at`.
+struct Read {
+    row: Row,
+    word: Word,
+    at: usize,
+}
+
+fn further(r: Read, c: u8) -> Read {
+    let row = r.row;
+    let word = r.word;
+    if c == b' ' {
+        return Read {
+            row: with_word(row, r.at, word),
+            word: no_word(),
+            at: 1,
+        };
+    }
+    Read {
+        row: row,
+        word: longer(word, c),
+        at: r.at,
+    }
 }
 
 // The row that a line says. Words have one space between them.
 pub fn row_of(line: &[u8]) -> Row {
-    let mut row = no_row();
-    let mut start: usize = 0;
+    let mut r = Read {
+        row: no_row(),
+        word: no_word(),
+        at: 0,
+    };
     let mut i: usize = 0;
     while i < line.len() {
-        if line[i] == b' ' {
-            row = with_word(row, start, &line[start..i]);
-            start = i + 1;
-        }
+        r = further(r, line[i]);
         i = i + 1;
     }
-    finished(with_word(row, start, &line[start..]))
+    let row = r.row;
+    let word = r.word;
+    with_word(row, r.at, word)
 }
 
 // The number at k of a field, and 0 where it has none.

@@ -85,15 +85,41 @@ pub fn fill_of(row: Row) -> u8 {
     byte(row, fields::EACH, 0)
 }
 
-// How many bytes are lent. A state's calls are lent one, and a written number may be longer than its room.
-pub fn lent_length(row: Row, call: usize) -> usize {
+// What a row gives besides a state, each 0 where it is not named.
+pub struct Given {
+    pub call: usize,
+    pub place: usize,
+    pub count: u32,
+    pub j: u32,
+    pub after: usize,
+    pub first: u64,
+    pub length: usize,
+    pub number: u32,
+    pub room: usize,
+}
+
+pub fn given_by(row: Row) -> Given {
+    Given {
+        call: row.call,
+        place: number(row, fields::PLACE),
+        count: narrow(row, fields::COUNT, 0),
+        j: narrow(row, fields::FOR, 0),
+        after: number(row, fields::AFTER),
+        first: number_at(row, fields::FIRST, 0),
+        length: number(row, fields::LENGTH),
+        number: narrow(row, fields::NUMBER, 0),
+        room: number(row, fields::ROOM),
+    }
+}
+
+// How many bytes are lent. A state's calls are lent one, and a buffer has more bytes than a number that is written to a part of it.
+pub fn lent_length(row: Row, g: Given) -> usize {
+    let call = g.call;
     match call {
         asked::STATE => 1,
         asked::WRITE_NUMBER => 6,
         asked::CHECK_INPUT => 0,
-        asked::WRITE_TABLE | asked::TABLE_BYTES => number(row, fields::ROOM),
-        asked::READ_TABLE | asked::READ_NUMBER => row.counts[fields::BYTES],
-        _ => number(row, fields::LENGTH) | row.counts[fields::LOG],
+        _ => g.length | g.room | row.counts[fields::BYTES] | row.counts[fields::LOG],
     }
 }
 

@@ -2,126 +2,98 @@
 use std::num::wrapping_add_usize;
 use std::num::wrapping_sub_u8;
 
-// What a word says, if it says a number.
-pub struct Number {
-    pub is_one: bool,
-    pub value: u64,
+// A word as far as it is read: its length and its last eight bytes, which no two names have in common; the number that it says in
+// tens, and in sixteens; and whether it is one.
+pub struct Word {
+    pub length: usize,
+    pub bytes: u64,
+    pub tens: u64,
+    pub sixteens: u64,
+    pub is_tens: bool,
+    pub is_sixteens: bool,
 }
 
-fn no_number() -> Number {
-    Number {
-        is_one: false,
-        value: 0,
+pub fn no_word() -> Word {
+    Word {
+        length: 0,
+        bytes: 0,
+        tens: 0,
+        sixteens: 0,
+        is_tens: true,
+        is_sixteens: true,
     }
+}
+
+fn wide(x: u8) -> u64 {
+    x as u64
 }
 
 // The digit that a character stands for, a to f among them; 16 for any other character.
 fn digit(c: u8) -> u64 {
-    let low = wrapping_sub_u8(c, b'0');
-    let high = wrapping_sub_u8(c, b'a');
+    let low = wide(wrapping_sub_u8(c, b'0'));
+    let high = wide(wrapping_sub_u8(c, b'a'));
     if low < 10 {
-        low as u64
+        low
     } else {
-        if high < 6 { (high as u64) + 10 } else { 16 }
+        if high < 6 { high + 10 } else { 16 }
     }
 }
 
-// The number with one more decimal digit, if it still has 64 bits.
-fn with_digit(x: Number, d: u64) -> Number {
-    if x.is_one {
-        if d < 10 {
-            if x.value <= (18446744073709551615 - d) / 10 {
-                return Number {
-                    is_one: true,
-                    value: x.value * 10 + d,
-                };
-            }
+// The word with one more character. A number in tens has at most 64 bits.
+pub fn longer(w: Word, c: u8) -> Word {
+    let d = digit(c);
+    let mut next = w;
+    next.length = wrapping_add_usize(w.length, 1);
+    next.bytes = (w.bytes << 8) | wide(c);
+    next.sixteens = (w.sixteens << 4) | d;
+    next.is_sixteens = w.is_sixteens & (d < 16);
+    next.is_tens = false;
+    if d < 10 {
+        if w.tens <= (18446744073709551615 - d) / 10 {
+            next.tens = w.tens * 10 + d;
+            next.is_tens = w.is_tens;
         }
-    }
-    no_number()
-}
-
-// A number in decimal.
-pub fn decimal(word: &[u8]) -> Number {
-    let mut x = Number {
-        is_one: 0 < word.len(),
-        value: 0,
-    };
-    let mut i: usize = 0;
-    while i < word.len() {
-        x = with_digit(x, digit(word[i]));
-        i = i + 1;
-    }
-    x
-}
-
-// A byte as two digits in sixteens.
-pub fn octet(word: &[u8]) -> Number {
-    if word.len() == 2 {
-        let high = digit(word[0]);
-        let low = digit(word[1]);
-        if high < 16 {
-            if low < 16 {
-                return Number {
-                    is_one: true,
-                    value: 16 * high + low,
-                };
-            }
-        }
-    }
-    no_number()
-}
-
-// How far the search for a word has come: the name that it is in, how many bytes of the word that name has begun with, and whether
-// the word was found to be the name.
-struct Search {
-    index: usize,
-    same: usize,
-    found: bool,
-}
-
-// More bytes than any word has in common with a name.
-const APART: usize = 18446744073709551615;
-
-// How many bytes of the word a name has begun with, one byte of the name later.
-fn agreed(word: &[u8], so_far: usize, byte: u8) -> usize {
-    if so_far < word.len() {
-        if word[so_far] == byte {
-            return so_far + 1;
-        }
-    }
-    APART
-}
-
-// One byte of the names further. A name ends with a space.
-fn further(s: Search, byte: u8, word: &[u8]) -> Search {
-    let mut next = s;
-    if s.found {
-        return next;
-    }
-    if byte == b' ' {
-        next.found = s.same == word.len();
-        next.same = 0;
-        if s.same != word.len() {
-            next.index = wrapping_add_usize(s.index, 1);
-        }
-    } else {
-        next.same = agreed(word, s.same, byte);
     }
     next
 }
 
-// Where the word stands in a list of names, each with a space behind it; for any other word, how many names there are.
-pub fn index_in(names: &[u8], word: &[u8]) -> usize {
+// How far the search for a name has come: the name that it is in, its letters so far, and whether the name was found.
+struct Search {
+    index: usize,
+    word: Word,
+    found: bool,
+}
+
+fn further(s: Search, c: u8, w: Word) -> Search {
+    let mut next = s;
+    let name = s.word;
+    if s.found {
+        return next;
+    }
+    if c == b' ' {
+        next.found = (name.bytes == w.bytes) & (name.length == w.length);
+        next.index = wrapping_add_usize(s.index, 1);
+        next.word = no_word();
+    } else {
+        next.word = longer(name, c);
+    }
+    next
+}
+
+// Where the word stands in a list of names, each with a space behind it, counted from 1; 0 for any other word.
+pub fn index_in(names: &[u8], w: Word) -> usize {
     let mut s = Search {
         index: 0,
-        same: 0,
+        word: no_word(),
         found: false,
     };
     let mut i: usize = 0;
     while i < names.len() {
-        s = further(s, names[i], word);
+        s = further(s, names[i], w);
         i = i + 1;
     }
-    s.index
+    if s.found {
+        return s.index;
+    }
+    0
 }

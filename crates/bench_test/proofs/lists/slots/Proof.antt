@@ -8,19 +8,16 @@ use Rattle.bench_test.proofs.lists.slots.Statement.{statement}
 use Rattle.bench_test.proofs.lists.slots.Tie as tie
 
 abbrev Inv-loop : tie.InvT-loop
-Inv-loop row log₀ after state₀ done₀ log state done = (length log ≡ length log₀) × (done ≤ length log)
+Inv-loop g log₀ state₀ done₀ log state done = (length log ≡ length log₀) × (done ≤ length log)
 
 abbrev μ-loop : tie.MeasureT-loop
-μ-loop row log₀ after state₀ done₀ log state done = length log - done
-
-number-requires : tie.Need-number-requires Inv-loop μ-loop
-number-requires c κs = search needs
+μ-loop g log₀ state₀ done₀ log state done = length log - done
 
 loop-holds : tie.Need-loop-holds Inv-loop μ-loop
 loop-holds c = search needs
 
-posted-requires : tie.Need-posted-requires Inv-loop μ-loop
-posted-requires c κs = search needs
+after-post-requires : tie.Need-after-post-requires Inv-loop μ-loop
+after-post-requires c κs = search needs
 
 slot-requires : tie.Need-slot-requires Inv-loop μ-loop
 slot-requires c κs = search needs
@@ -52,9 +49,8 @@ slots-spec =
     (tie.spec
     Inv-loop
     μ-loop
-    number-requires
     loop-holds
-    posted-requires
+    after-post-requires
     slot-requires
     log-byte-requires
     slice-write-log

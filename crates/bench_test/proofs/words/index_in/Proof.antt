@@ -6,10 +6,13 @@ use Rattle.bench_test.proofs.words.index_in.Statement.{statement}
 use Rattle.bench_test.proofs.words.index_in.Tie as tie
 
 abbrev Inv-loop : tie.InvT-loop
-Inv-loop names word s₀ i₀ s i = i ≤ length names
+Inv-loop names w s₀ i₀ s i = i ≤ length names
 
 abbrev μ-loop : tie.MeasureT-loop
-μ-loop names word s₀ i₀ s i = length names - i
+μ-loop names w s₀ i₀ s i = length names - i
+
+no-word-requires : tie.Need-no-word-requires Inv-loop μ-loop
+no-word-requires c κs = search needs
 
 loop-holds : tie.Need-loop-holds Inv-loop μ-loop
 loop-holds c = search needs
@@ -32,16 +35,21 @@ loop-again c = search needs
 returns : tie.Need-returns Inv-loop μ-loop
 returns c = search needs
 
+returns-2 : tie.Need-returns-2 Inv-loop μ-loop
+returns-2 c = search needs
+
 pub index-in-spec : {M : Type 1} → statement M
 index-in-spec =
     tie.close
     (tie.spec
     Inv-loop
     μ-loop
+    no-word-requires
     loop-holds
     shared-slice-read-further
     further-requires
     add-i
     loop-less
     loop-again
-    returns)
+    returns
+    returns-2)

@@ -1,15 +1,15 @@
--- `bench_test::bytes::hexadecimals` is safe and ends, at the bytes' end. Assumes nothing.
+-- `bench_test::bytes::print_bytes` is safe and ends, at the bytes' end. Assumes nothing.
 use Prim.Native.Nat.{_≤_, _-_}
 use lib.ListN.{length}
 use borrow.Author.Needs.{needs}
-use Rattle.bench_test.proofs.bytes.hexadecimals.Statement.{statement}
-use Rattle.bench_test.proofs.bytes.hexadecimals.Tie as tie
+use Rattle.bench_test.proofs.bytes.print_bytes.Statement.{statement}
+use Rattle.bench_test.proofs.bytes.print_bytes.Tie as tie
 
 abbrev Inv-loop : tie.InvT-loop
-Inv-loop bytes i₀ i = i ≤ length bytes
+Inv-loop bytes most phrase i₀ i = i ≤ length bytes
 
 abbrev μ-loop : tie.MeasureT-loop
-μ-loop bytes i₀ i = length bytes - i
+μ-loop bytes most phrase i₀ i = length bytes - i
 
 loop-holds : tie.Need-loop-holds Inv-loop μ-loop
 loop-holds c = search needs
@@ -20,8 +20,8 @@ shared-slice-read-wide c = search needs
 wide-requires : tie.Need-wide-requires Inv-loop μ-loop
 wide-requires c κs = search needs
 
-octet-requires : tie.Need-octet-requires Inv-loop μ-loop
-octet-requires c κs = search needs
+say-requires : tie.Need-say-requires Inv-loop μ-loop
+say-requires c κs = search needs
 
 add-i : tie.Need-add-i Inv-loop μ-loop
 add-i c = search needs
@@ -35,8 +35,8 @@ loop-again c = search needs
 returns : tie.Need-returns Inv-loop μ-loop
 returns c = search needs
 
-pub hexadecimals-spec : {M : Type 1} → statement M
-hexadecimals-spec =
+pub print-bytes-spec : {M : Type 1} → statement M
+print-bytes-spec =
     tie.close
     (tie.spec
     Inv-loop
@@ -44,7 +44,7 @@ hexadecimals-spec =
     loop-holds
     shared-slice-read-wide
     wide-requires
-    octet-requires
+    say-requires
     add-i
     loop-less
     loop-again
