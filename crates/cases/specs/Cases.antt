@@ -3,13 +3,13 @@ use mathlib.Core.Path.{_≡_}
 use mathlib.Core.List.{List, _++_, map}
 use Rattle.cases.specs.Rows.{Row, reply}
 use Rattle.cases.specs.BenchRows.{benchRows}
-use Rattle.cases.specs.EdgeRows.{limitRows, orderRows, stateRows, ruleRows, replayRows}
-use Rattle.cases.specs.BytesRows.{numberRows, readRows, writeRows}
-use Rattle.cases.specs.LogRows.{runRows, leadRows, figureRows}
+use Rattle.cases.specs.EdgeRows.{limitRows, wideRows, orderRows, stateRows, ruleRows, replayRows}
+use Rattle.cases.specs.BytesRows.{numberRows, takeRows, lendRows, readRows, writeRows, refusedWriteRows, changedWriteRows, orderedWriteRows}
+use Rattle.cases.specs.LogRows.{checkRows, runRows, leadRows, figureRows}
 use Rattle.cases.specs.ListingRows.{listingRows}
 
 abbrev pub rows : List Row
-rows = benchRows ++ limitRows ++ orderRows ++ stateRows ++ ruleRows ++ replayRows ++ numberRows ++ readRows ++ writeRows ++ runRows ++ leadRows ++ figureRows ++ listingRows
+rows = benchRows ++ limitRows ++ wideRows ++ orderRows ++ stateRows ++ ruleRows ++ replayRows ++ numberRows ++ takeRows ++ lendRows ++ readRows ++ writeRows ++ refusedWriteRows ++ changedWriteRows ++ orderedWriteRows ++ checkRows ++ runRows ++ leadRows ++ figureRows ++ listingRows
 
 abbrev pub All-pass : Type 0
 All-pass = map (λ r. reply (r .asked)) rows ≡ map (λ r. r .written) rows

@@ -10,7 +10,7 @@ use Rattle.arbiter.specs.Answers.{accepted, granted, idle, refused}
 use Rattle.arbiter.specs.Table.{noRequestor}
 use Rattle.arbiter.specs.State.{noAccount}
 use Rattle.calls.specs.Calls.{post, slot}
-use Rattle.cases.specs.Rows.{row, account, table, stateOf, Row, admission, calling, asking, replaying, standing, found, told, answered, replayed}
+use Rattle.cases.specs.Rows.{row, account, table, allZeroState, stateOf, Row, admission, starting, calling, asking, replaying, standing, found, started-as, told, answered, replayed}
 use Rattle.cases.specs.BenchRows.{tableT, tableTShort}
 
 -- T with this row at place 0, or at place 1
@@ -69,6 +69,16 @@ limitRows =
           (refused (refusal 21) ∷ refused (refusal 21) ∷ accepted ∷ refused (refusal 21) ∷ refused (refusal 11) ∷ refused (refusal 11) ∷ [])
           (standing 0 (8 ∷ 4 ∷ []) (0 ∷ 40000 ∷ []));
     }
+    ∷ []
+
+-- numbers that 32 bits cannot hold: an L whose low 32 bits are 1, an N whose low 32 bits are 2
+unfoldable pub wideRows : List Row
+wideRows =
+    record { asked = admission (tableSecond (row 1 4 1 4294967297)); written = found (fault (refusalAt 5 1)) }
+    ∷ record { asked = admission (table 4 4294967298 []); written = found (fault (refusal 2)) }
+    -- a start from them hands back a state whose every field is 0
+    ∷ record { asked = starting (tableSecond (row 1 4 1 4294967297)) 0; written = started-as (refused (refusalAt 5 1)) allZeroState }
+    ∷ record { asked = starting (table 4 4294967298 []) 0; written = started-as (refused (refusal 2)) allZeroState }
     ∷ []
 
 -- which of two faults is named

@@ -1,4 +1,4 @@
--- Edges of the run over a log, of the lead and of the figures call, worked out by hand.
+-- Edges of the run over a log, of the lead and of the figures call, and of the checks that they share, worked out by hand.
 use mathlib.Core.List.{List, [], _∷_, _++_}
 use Prim.Native.Nat.{ℕ, _-_}
 use lib.IntN.{pos, negsuc}
@@ -11,7 +11,7 @@ use Rattle.arbiter.specs.Asked as asked
 use Rattle.leads.specs.Lead.{lead}
 use Rattle.leads.specs.Lead as leads
 use Rattle.calls.specs.Calls.{post}
-use Rattle.cases.specs.Rows.{row, account, table, stateOf, Row, running, runChecks, leading, leadChecks, askingFigures, after, standing, found, ran, led, told-figures}
+use Rattle.cases.specs.Rows.{row, account, table, stateOf, Row, placeChecks, inputChecks, running, runChecks, leading, leadChecks, askingFigures, after, standing, found, ran, led, told-figures}
 use Rattle.cases.specs.BenchRows.{tableT, tableTShort, threeEach, logNine}
 
 -- T with this first slot number and nothing posted
@@ -33,6 +33,21 @@ startThree = after (table 10 3 (row 1 10 1 10 ∷ row 2 25 1 7 ∷ row 4 10 1 8 
 -- as many places as there can be, and one transfer waiting at the last
 unfoldable pub startLast : Arbiter
 startLast = after (table 100 maxPlaces (replicate maxPlaces (row 1 100 1 10000))) 0 (post (maxPlaces - 1) 1 ∷ [])
+
+-- the checks of a place and of a number of bytes, each asked by itself
+unfoldable pub checkRows : List Row
+checkRows =
+    -- 11: T has places 0 and 1; neither 2 nor the largest number of 64 bits is one of them
+    record { asked = placeChecks (startT 0) 0; written = found faultless }
+    ∷ record { asked = placeChecks (startT 0) 1; written = found faultless }
+    ∷ record { asked = placeChecks (startT 0) 2; written = found (fault (refusal 11)) }
+    ∷ record { asked = placeChecks (startT 0) 18446744073709551615; written = found (fault (refusal 11)) }
+    -- 13: no byte and 65,536 bytes pass; one more and the largest number of 64 bits do not
+    ∷ record { asked = inputChecks 0; written = found faultless }
+    ∷ record { asked = inputChecks 65536; written = found faultless }
+    ∷ record { asked = inputChecks 65537; written = found (fault (refusal 13)) }
+    ∷ record { asked = inputChecks 18446744073709551615; written = found (fault (refusal 13)) }
+    ∷ []
 
 unfoldable pub runRows : List Row
 runRows =

@@ -1,10 +1,11 @@
 -- What a row asks, what it is told, and the one evaluator, which runs the definitions that the contracts cite and parts of them.
 use mathlib.Core.Bool.{Bool, true, _&&_}
 use mathlib.Core.List.{List, [], _∷_, _++_, map}
-use Prim.Native.Nat.{ℕ, _-_, _*_}
+use Prim.Native.Nat.{ℕ, zero, suc, _-_, _*_}
 use lib.Dec.{ltb}
-use lib.ListN.{length, take, replicate}
-use Rattle.groups.specs.Groups.{numberBytes, Filled, numberWritten}
+use lib.ListN.{length, take, drop, getD, replicate}
+use Rattle.groups.specs.declared.reading.Reading.{Reading}
+use Rattle.groups.specs.Groups.{numberOf, numberBytes, Filled, numberWritten}
 use Rattle.arbiter.specs.declared.table.Requestor.{Requestor}
 use Rattle.arbiter.specs.declared.table.Table.{Table}
 use Rattle.arbiter.specs.declared.state.Account.{Account}
@@ -14,7 +15,8 @@ use Rattle.arbiter.specs.Refusals.{Verdict}
 use Rattle.arbiter.specs.Answers.{Answer}
 use Rattle.arbiter.specs.Table.{requestorAt, requestorsOf, tableOf}
 use Rattle.arbiter.specs.Figures.{burstsAbove, rateLeft, wait, finish, admissionVerdict}
-use Rattle.arbiter.specs.State.{credit, backlog, noAccount, accountAt}
+use Rattle.arbiter.specs.State.{credit, backlog, noAccount, accountAt, placeVerdict}
+use Rattle.arbiter.specs.Input.{inputVerdict}
 use Rattle.arbiter.specs.Start.{start}
 use Rattle.arbiter.specs.Asked.{FiguresAnswer}
 use Rattle.arbiter.specs.Asked as asked
@@ -43,6 +45,15 @@ padded zero-element xs = xs ++ replicate (maxPlaces - length xs) zero-element
 abbrev pub table : ℕ → ℕ → List Requestor → Table
 table d n rows = tableOf maxPlaces d n rows
 
+-- so many rows of the rates, bursts, j and L of places 0, 1, 2, …; where a list ends, the rest of its field is 0
+unfoldable pub rowsOf : ℕ → (rates bursts needs withins : List ℕ) → List Requestor
+rowsOf zero ns bs js ls = []
+rowsOf (suc k) ns bs js ls = row (getD ns 0 0) (getD bs 0 0) (getD js 0 0) (getD ls 0 0) ∷ rowsOf k (drop 1 ns) (drop 1 bs) (drop 1 js) (drop 1 ls)
+
+-- a table of D, N and a list for each field of a row
+abbrev pub fields : ℕ → ℕ → (rates bursts needs withins : List ℕ) → Table
+fields d n ns bs js ls = table d n (rowsOf maxPlaces ns bs js ls)
+
 -- the table whose every field is 0
 abbrev pub allZero : Table
 allZero = record { denominator = 0; count = 0; requestors = replicate maxPlaces (row 0 0 0 0) }
@@ -51,23 +62,36 @@ allZero = record { denominator = 0; count = 0; requestors = replicate maxPlaces 
 unfoldable pub stateOf : Table → ℕ → List Account → Arbiter
 stateOf t at accounts = record { table = t; slot = record { 0 = at }; accounts = padded noAccount accounts }
 
+-- the state whose every field is 0
+abbrev pub allZeroState : Arbiter
+allZeroState = record { table = allZero; slot = record { 0 = 0 }; accounts = replicate maxPlaces (account 0 0) }
+
 pub data Question : Type 0 where
   -- what a number is read as from the start of some bytes, and what bytes a number is written as
   readingNumber : (bytes : List ℕ) → Question
   writingNumber : ℕ → Question
   -- a number's bytes into a lent buffer
   puttingNumber : ℕ → (old : List ℕ) → Question
+  -- what stands at the start of some bytes, a number with how many of them it takes; and how many bytes a number takes, and its
+  -- bytes into the first `room` bytes of a buffer, which alone are lent
+  takingNumber : (bytes : List ℕ) → Question
+  lendingNumber : ℕ → (room : ℕ) → (buffer : List ℕ) → Question
   -- a table from its bytes, and a table's bytes into a lent buffer
   reading : (bytes : List ℕ) → Question
   writing : Table → (old : List ℕ) → Question
   -- what admission finds
   admission : Table → Question
+  -- what a start answers, and the whole state that it hands back
+  starting : Table → (first : ℕ) → Question
   -- what a start answers, and the calls from it, and how the state stands then
   calling : Table → (first : ℕ) → List Call → Question
   -- what one call on a state answers, and how the state stands then
   asking : Arbiter → Call → Question
   -- a lent list of calls as numbers, folded from a start into a lent list of answers
   replaying : Table → (first : ℕ) → (calls old : List ℕ) → Question
+  -- what the checks of a place of a state find, and those of so many bytes of a log or of input
+  placeChecks : Arbiter → (place : ℕ) → Question
+  inputChecks : (bytes : ℕ) → Question
   -- as many slots on a state as a lent log has bytes; and what the checks of a run over so many bytes find
   running : Arbiter → (log : List ℕ) → Question
   runChecks : Arbiter → (count : ℕ) → Question
@@ -96,10 +120,14 @@ pub data Reply : Type 0 where
   number : Read ℕ → Reply
   bytes : List ℕ → Reply
   put-as : Filled → Reply
+  taken-as : Reading → Reply
+  -- how many bytes the number takes, how many were written, and the whole buffer afterwards
+  lent-as : (takes wrote : ℕ) → (buffer : List ℕ) → Reply
   read-as : Answer → Table → Reply
   -- how many bytes were written or why none, and the lent buffer afterwards
   written-as : WriteAnswer → (buffer : List ℕ) → Reply
   found : Verdict → Reply
+  started-as : Answer → Arbiter → Reply
   told : (started : Answer) (answers : List Answer) → Standing → Reply
   answered : Answer → Standing → Reply
   replayed : (started : Answer) (answers : List ℕ) → Standing → Reply
@@ -132,9 +160,14 @@ unfoldable pub reply : Question → Reply
 reply (readingNumber given) = number (numberRead given)
 reply (writingNumber x) = bytes (numberBytes x)
 reply (puttingNumber x old) = put-as (numberWritten x old)
+reply (takingNumber given) = taken-as (numberOf given)
+reply (lendingNumber x room buffer) =
+    let w = numberWritten x (take room buffer) in
+    lent-as (length (numberBytes x)) (w .wrote) (w .buffer ++ drop room buffer)
 reply (reading given) = let r = readTable maxPlaces given in read-as (r .answer) (r .table)
 reply (writing t old) = let w = writeTable maxPlaces t old in written-as (w .answer) (w .buffer)
 reply (admission t) = found (admissionVerdict maxPlaces t)
+reply (starting t first) = let begun = start maxPlaces t first in started-as (begun .answer) (begun .state)
 reply (calling t first calls) =
     let begun = start maxPlaces t first in
     told (begun .answer) (heardFrom maxPlaces (begun .state) calls) (standsAt (t .count) (stateAfter maxPlaces t first calls))
@@ -142,6 +175,8 @@ reply (asking s c) = answered (called maxPlaces s c .answer) (standsAt (s .table
 reply (replaying t first calls old) =
     let r = replay maxPlaces t first calls old in
     replayed (r .answer) (r .words) (standsAt (t .count) (r .state))
+reply (placeChecks s p) = found (placeVerdict maxPlaces s p)
+reply (inputChecks count) = found (inputVerdict count)
 reply (running s log) = let r = run maxPlaces s log in ran (r .answer) (r .log) (standsAt (s .table .count) (r .state))
 reply (runChecks s count) = found (runVerdict maxPlaces s count)
 reply (leading s p log) = led (leadAsked maxPlaces s p log)
