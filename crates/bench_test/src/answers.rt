@@ -1,101 +1,168 @@
-// What a call came to, as the numbers that are printed of it.
-use crate::comparing::same_state;
-use crate::phrases;
-use arbiter::refusals::Cause;
-use arbiter::refusals::Named;
-use arbiter::refusals::Origin;
+// The calls by value. Of each the line tells first what it handed back, and then its answer.
+use arbiter::admission::admit;
+use arbiter::asked::FiguresAnswer;
+use arbiter::asked::figures;
 use arbiter::refusals::Verdict;
+use arbiter::start::StartAnswer;
 use arbiter::state::Arbiter;
+use arbiter::table::Table;
+use arbiter::units::Slots;
+use arbiter::units::Transfers;
+use bench_parts::printing;
+use bench_parts::printing::case;
+use bench_parts::printing::decimals;
+use bench_parts::printing::number;
+use bench_parts::printing::numbers;
+use bench_parts::printing::refused;
+use bench_parts::printing::say;
+use bench_parts::printing::state;
+use bench_parts::printing::table;
+use bench_parts::printing::told;
+use calls::run::RunAnswer;
+use calls::run::run;
+use calls::slot::SlotAnswer;
+use groups::reading::Reading;
+use groups::reading::read_number;
+use groups::writing::number_len;
+use groups::writing::write_number;
+use in_place::slot_of_a_loan;
+use leads::LeadAnswer;
+use leads::lead;
+use replay::replay;
+use table_bytes::reader::ReadAnswer;
+use table_bytes::reader::read_table;
 
-// A phrase and its numbers; the refusal's number, or 0; and a phrase on what a refused call kept, or an accepted one wrote.
-pub struct Answer {
-    pub phrase: usize,
-    pub tail: usize,
-    pub refusal: u64,
-    pub numbers: [u64; 7],
-}
-
-pub fn told(phrase: usize, x: u64, y: u64) -> Answer {
-    Answer {
-        phrase: phrase,
-        tail: phrases::NOTHING,
-        refusal: 0,
-        numbers: [x, y, 0, 0, 0, 0, 0],
+// A refused reading hands back a table of zeros.
+pub fn reads_table(bytes: &[u8]) {
+    let done = read_table(bytes);
+    let t = done.table;
+    let a = done.answer;
+    table(t);
+    match a {
+        ReadAnswer::Accepted => say(printing::ACCEPTED),
+        ReadAnswer::Refused(c) => refused(c),
     }
 }
 
-fn by_origin(number: u64, by: Origin, named: Named) -> Answer {
-    match by {
-        Origin::State => told(phrases::STATE, number, 0),
-        Origin::Input => match named {
-            Named::Nowhere => told(phrases::INPUT, number, 0),
-            Named::Place(p) => told(phrases::PLACE, number, p as u64),
-        },
+// The number and how many bytes it takes, or what is wrong.
+pub fn reads_number(bytes: &[u8]) {
+    match read_number(bytes) {
+        Reading::Number(x, taken) => {
+            number(x as u64);
+            told(printing::TAKES, taken as u64);
+        }
+        Reading::Ended => say(printing::ENDED),
+        Reading::Malformed => say(printing::MALFORMED),
     }
 }
 
-// The refusal's number, what caused it and the place that it names.
-pub fn refused(c: Cause) -> Answer {
-    let r = c.refusal();
-    let named = r.place;
-    let by = r.origin;
-    let mut a = by_origin(r.number as u64, by, named);
-    a.refusal = r.number as u64;
-    a
+// How many bytes the number takes and how many were written, and the whole buffer after it.
+fn writes_into(x: u32, buffer: &mut [u8]) {
+    let wrote = write_number(x, buffer);
+    number(x as u64);
+    told(printing::TAKES, number_len(x) as u64);
+    told(printing::WROTE, wrote as u64);
+    decimals(buffer);
 }
 
-pub fn answer_of_verdict(v: Verdict) -> Answer {
-    match v {
-        Verdict::Faultless => told(phrases::FAULTLESS, 0, 0),
+pub fn writes_number(x: u32) {
+    let mut buffer = [170u8; 6];
+    writes_into(x, &mut buffer);
+}
+
+pub fn admits(t: Table) {
+    match admit(t) {
+        Verdict::Faultless => say(printing::ACCEPTED),
         Verdict::Fault(c) => refused(c),
     }
 }
 
-// An answer with a claim, which has to hold as every claim before it had to.
-pub fn claiming(a: Answer, claim: usize, holds: bool) -> Answer {
-    let mut claimed = a;
-    if !holds {
-        claimed.tail = phrases::BROKEN;
-    }
-    if claimed.tail != phrases::BROKEN {
-        claimed.tail = claim;
-    }
-    claimed
-}
-
-// A refused call makes a claim of what it kept or cleared.
-pub fn claiming_if_refused(a: Answer, claim: usize, holds: bool) -> Answer {
-    if a.refusal == 0 {
-        return a;
-    }
-    claiming(a, claim, holds)
-}
-
-// With the credits and the backlogs of places 0 and 1, and the slot number.
-pub fn with_accounts(a: Answer, s: Arbiter) -> Answer {
-    let x = s.accounts[0];
-    let y = s.accounts[1];
-    let p = x.backlog;
-    let q = y.backlog;
-    let slot = s.slot;
-    Answer {
-        phrase: a.phrase,
-        tail: a.tail,
-        refusal: a.refusal,
-        numbers: [
-            a.numbers[0],
-            a.numbers[1],
-            x.credit as u64,
-            y.credit as u64,
-            p.0 as u64,
-            q.0 as u64,
-            slot.0,
-        ],
+// The thin form: the slot of a state that is lent.
+pub fn lends(s: Arbiter) {
+    let done = slot_of_a_loan(s);
+    let after = done.state;
+    let a = done.answer;
+    case(0);
+    say(printing::LOAN);
+    state(after);
+    match a {
+        SlotAnswer::Granted(stamp, place) => {
+            told(printing::GRANTED, place as u64);
+            told(printing::STAMP, stamp.0);
+        }
+        SlotAnswer::Idle(stamp) => {
+            say(printing::IDLE);
+            told(printing::STAMP, stamp.0);
+        }
+        SlotAnswer::Refused(c) => refused(c),
     }
 }
 
-// Of a call that handed back a state, which has to be `kept` if the call was refused.
-pub fn of_state(a: Answer, claim: usize, kept: Arbiter, after: Arbiter) -> Answer {
-    let holds = same_state(kept, after);
-    with_accounts(claiming_if_refused(a, claim, holds), after)
+pub fn runs(s: Arbiter, log: &mut [u8]) {
+    let done = run(s, log);
+    let after = done.state;
+    let a = done.answer;
+    decimals(log);
+    state(after);
+    match a {
+        RunAnswer::Ran => say(printing::ACCEPTED),
+        RunAnswer::Refused(c) => refused(c),
+    }
+}
+
+// How far a number is from 0. It is counted from -1 downward, so that the lowest of all has a distance too.
+fn distance(x: i64) -> u64 {
+    if x >= 0 {
+        x as u64
+    } else {
+        ((0 - (x + 1)) as u64) + 1
+    }
+}
+
+// A lead below 0 is told as minus its distance from 0.
+fn tell_lead(x: i64) {
+    let size = distance(x);
+    if x < 0 {
+        told(printing::MINUS, size);
+    } else {
+        number(size);
+    }
+}
+
+pub fn leads(s: Arbiter, place: usize, log: &[u8]) {
+    match lead(s, place, log) {
+        LeadAnswer::Lead(x) => tell_lead(x),
+        LeadAnswer::Refused(c) => refused(c),
+    }
+}
+
+pub fn figures_of(s: Arbiter, place: usize) {
+    match figures(s, place, Transfers(1)) {
+        FiguresAnswer::Figures(f) => {
+            let wait = f.wait;
+            let finish = f.finish;
+            told(printing::WAIT, wait.0);
+            told(printing::FINISH, finish.0);
+        }
+        FiguresAnswer::Refused(c) => refused(c),
+    }
+}
+
+fn replays_into(t: Table, first: u64, calls: &[u32], answers: &mut [u64]) {
+    let done = replay(t, Slots(first), calls, answers);
+    let after = done.state;
+    let a = done.answer;
+    numbers(answers);
+    state(after);
+    match a {
+        StartAnswer::Started => say(printing::ACCEPTED),
+        StartAnswer::Refused(c) => refused(c),
+    }
+}
+
+// A start, posts and slots, three numbers to a call and to an answer; an answer that was not written is 7s.
+pub fn replays(t: Table, first: u64, calls: &[u32]) {
+    let mut answers = [7u64; 33];
+    say(printing::REPLAY);
+    replays_into(t, first, calls, &mut answers);
 }

@@ -1,4 +1,4 @@
-//! A row: a request by field, a colon and the answer. The grammar is that of bench_test, which says it at the top of its source.
+//! A row: a request by field, a colon and the answer, in the grammar that stands at the top of the file of rows.
 
 use crate::model::{Account, Requestor, State, Table, PLACES};
 
@@ -7,19 +7,13 @@ pub enum Call {
     Admit,
     Start,
     ReadTable,
-    ReadNumber,
     WriteTable,
     TableBytes,
-    WriteNumber,
-    CheckInput,
-    Replay,
     Post,
     Slot,
-    SlotOfALoan,
     Run,
     Lead,
     Figures,
-    CheckPlace,
     State,
     AllCalls,
     Slots,
@@ -32,23 +26,17 @@ const TABLE: &str = "T D N rate burst need within";
 const STATE: &str = "T D N rate burst need within credit backlog slot";
 
 impl Call {
-    pub const ALL: [Call; 22] = [
+    pub const ALL: [Call; 16] = [
         Call::Admit,
         Call::Start,
         Call::ReadTable,
-        Call::ReadNumber,
         Call::WriteTable,
         Call::TableBytes,
-        Call::WriteNumber,
-        Call::CheckInput,
-        Call::Replay,
         Call::Post,
         Call::Slot,
-        Call::SlotOfALoan,
         Call::Run,
         Call::Lead,
         Call::Figures,
-        Call::CheckPlace,
         Call::State,
         Call::AllCalls,
         Call::Slots,
@@ -67,19 +55,13 @@ impl Call {
             Call::Admit => ("admit", TABLE, ""),
             Call::Start => ("start", TABLE, "first"),
             Call::ReadTable => ("read_table", "", "bytes"),
-            Call::ReadNumber => ("read_number", "", "bytes"),
             Call::WriteTable => ("write_table", TABLE, "room"),
             Call::TableBytes => ("table_bytes", TABLE, "room"),
-            Call::WriteNumber => ("write_number", "", "number room"),
-            Call::CheckInput => ("check_input", "", "length"),
-            Call::Replay => ("replay", TABLE, "first calls"),
             Call::Post => ("post", STATE, "place count"),
             Call::Slot => ("slot", STATE, ""),
-            Call::SlotOfALoan => ("slot_of_a_loan", STATE, ""),
             Call::Run => ("run", STATE, "length"),
             Call::Lead => ("lead", STATE, "place length each log"),
             Call::Figures => ("figures", STATE, "place for"),
-            Call::CheckPlace => ("check_place", STATE, "place"),
             Call::State => ("state", STATE, ""),
             Call::AllCalls => ("all_calls", STATE, "place count for length"),
             Call::Slots => ("slots", STATE, "place count after length"),
@@ -87,18 +69,6 @@ impl Call {
             Call::SlotsAndCredits => ("slots_and_credits", STATE, "length"),
             Call::Floor => ("floor", STATE, "place count after length"),
         }
-    }
-
-    pub fn is_exported(self) -> bool {
-        !matches!(
-            self,
-            Call::ReadNumber
-                | Call::WriteNumber
-                | Call::SlotOfALoan
-                | Call::Replay
-                | Call::CheckPlace
-                | Call::CheckInput
-        )
     }
 
     fn by_name(name: &str) -> Result<Call, String> {
@@ -111,8 +81,8 @@ impl Call {
     }
 }
 
-/// The fields in the order in which a row names them: how many numbers each has, at least and at most, and the largest.
-const FIELDS: [(&str, usize, usize, u64); 22] = [
+/// The fields: how many numbers each has, at least and at most, and the largest.
+const FIELDS: [(&str, usize, usize, u64); 20] = [
     ("T", 0, 0, 0),
     ("D", 1, 1, NARROW),
     ("N", 1, 1, u64::MAX),
@@ -132,9 +102,7 @@ const FIELDS: [(&str, usize, usize, u64); 22] = [
     ("each", 1, 1, 255),
     ("log", 0, 128, 255),
     ("bytes", 0, 128, 255),
-    ("number", 1, 1, NARROW),
     ("room", 1, 1, u64::MAX),
-    ("calls", 0, 128, NARROW),
 ];
 
 const NARROW: u64 = u32::MAX as u64;
@@ -161,6 +129,9 @@ impl Row {
             row.take(word)?;
         }
         row.check_last()?;
+        if row.find("each").is_some() && row.find("log").is_some() {
+            return Err("a log is written out, or all of it is the same".to_string());
+        }
         Ok(row)
     }
 
@@ -179,8 +150,11 @@ impl Row {
         if !self.call.has(word) {
             return Err(format!("{} has no field {word}", self.call.name()));
         }
-        if self.named.last().is_some_and(|last| field <= last.field) {
-            return Err(format!("{word} is named too late"));
+        if self.find(word).is_some() {
+            return Err(format!("{word} is named twice"));
+        }
+        if word == "T" && !self.named.is_empty() {
+            return Err("T stands behind a field, whose numbers it would replace".to_string());
         }
         self.named.push(Named { field, numbers: Vec::new() });
         Ok(())

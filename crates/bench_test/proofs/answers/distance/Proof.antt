@@ -1,11 +1,11 @@
--- `bench_test::answering::distance` is safe: std's laws on a signed number's magnitude say that each step to it is defined.
+-- `bench_test::answers::distance` is safe: std's laws on a signed number's magnitude say that each step to it is defined.
 -- Assumes nothing.
 use borrow.Author.Needs.{needs}
 use lib.Dec.{lit≤}
 use mir.Syntax.{w64}
 use Rattle.std.proofs.num.Nearest.{Plain, Turned, plain, turn}
-use Rattle.bench_test.proofs.answering.distance.Statement.{statement}
-use Rattle.bench_test.proofs.answering.distance.Tie as tie
+use Rattle.bench_test.proofs.answers.distance.Statement.{statement}
+use Rattle.bench_test.proofs.answers.distance.Tie as tie
 
 upper : (c : tie.Then1) → Plain w64 (c .before .args .x)
 upper c = plain w64 (c .before .args .x) (lit≤ tt) (c .before .fits .x) (c .if1 .taken)

@@ -1,0 +1,56 @@
+// Tables and states that the cases are about.
+use arbiter::state::Account;
+use arbiter::state::Arbiter;
+use arbiter::state::no_account;
+use arbiter::table::Requestor;
+use arbiter::table::Table;
+use arbiter::table::bare_table;
+use arbiter::units::Slots;
+use arbiter::units::Transfers;
+
+// A rate n, a burst b, and the need of one transfer within l slots.
+pub fn row(n: u32, b: u32, l: u64) -> Requestor {
+    Requestor {
+        rate: n,
+        burst: b,
+        need: Transfers(1),
+        within: Slots(l),
+    }
+}
+
+pub fn one_place(d: u32, r: Requestor) -> Table {
+    let mut t = bare_table(d, 1);
+    t.requestors[0] = r;
+    t
+}
+
+pub fn two_places(d: u32, first: Requestor, second: Requestor) -> Table {
+    let mut t = bare_table(d, 2);
+    t.requestors[0] = first;
+    t.requestors[1] = second;
+    t
+}
+
+// Table T of document 01.
+pub fn t() -> Table {
+    two_places(4, row(1, 8, 4), row(1, 4, 7))
+}
+
+pub fn account(credit: u32, backlog: u32) -> Account {
+    Account {
+        credit: credit,
+        backlog: Transfers(backlog),
+    }
+}
+
+// Table T with these accounts at its two places. No start has made it, and it may break a rule.
+pub fn t_with(first: Account, second: Account, slot: u64) -> Arbiter {
+    let mut accounts = [no_account(); Arbiter::MAX_PLACES];
+    accounts[0] = first;
+    accounts[1] = second;
+    Arbiter {
+        table: t(),
+        slot: Slots(slot),
+        accounts: accounts,
+    }
+}

@@ -1,0 +1,159 @@
+// Document 01's cases, in its order, and then the thin form and more of replay.
+use crate::answers::admits;
+use crate::answers::figures_of;
+use crate::answers::leads;
+use crate::answers::lends;
+use crate::answers::reads_number;
+use crate::answers::reads_table;
+use crate::answers::replays;
+use crate::answers::runs;
+use crate::answers::writes_number;
+use arbiter::state::Arbiter;
+use arbiter::units::Slots;
+use arbiter::units::Transfers;
+use bench_parts::printing::case;
+use bench_parts::printing::decimals;
+use bench_parts::values::account;
+use bench_parts::values::one_place;
+use bench_parts::values::row;
+use bench_parts::values::t;
+use bench_parts::values::t_with;
+use bench_parts::values::two_places;
+use calls::post::post;
+use calls::run::run;
+
+fn cases_1_and_2() {
+    case(1);
+    reads_table(b"\x04\x02\x01\x08\x01\x04\x01\x04\x01\x07");
+    case(2);
+    reads_table(b"\x04\x02\x01\x08\x01\x04\x01\x04\x01\x06");
+    case(2);
+    figures_of(t_with(account(8, 0), account(4, 0), 0), 1);
+}
+
+// Table T from slot 0 with three transfers posted to each place: nine slots one by one, and three, after which case 4 has the credits.
+fn cases_3_and_4() {
+    let mut calls = [0u32; 33];
+    calls[0] = 1;
+    calls[2] = 3;
+    calls[3] = 1;
+    calls[4] = 1;
+    calls[5] = 3;
+    case(3);
+    replays(t(), 0, &calls);
+    case(4);
+    replays(t(), 0, &calls[0..15]);
+}
+
+// The nine slots as a run, and the leads over its log.
+fn cases_3_and_5() {
+    let s = t_with(account(8, 3), account(4, 3), 0);
+    let mut log = [170u8; 9];
+    case(3);
+    runs(s, &mut log);
+    case(5);
+    leads(s, 0, &log);
+    case(5);
+    leads(s, 1, &log);
+    case(5);
+    leads(s, 1, &[0, 0]);
+}
+
+fn reads(bytes: &[u8]) {
+    case(6);
+    reads_number(bytes);
+}
+
+fn case_6() {
+    reads(b"\xac\x02");
+    reads(b"\x84\x00");
+    reads(b"\xff\xff\xff\xff\x0f");
+    reads(b"\xff\xff\xff\xff\x10");
+    case(6);
+    writes_number(300);
+    case(6);
+    writes_number(4294967295);
+}
+
+// Rates that share out more than the line, and just the line.
+fn case_7() {
+    case(7);
+    admits(two_places(4, row(3, 4, 1000), row(2, 4, 1000)));
+    case(7);
+    admits(two_places(4, row(3, 4, 1000), row(1, 4, 1000)));
+}
+
+fn admits_one(k: u64, d: u32, burst: u32) {
+    case(k);
+    admits(one_place(d, row(1, burst, 1000000)));
+}
+
+// A burst below D, and at it; the limits of D; and no bytes.
+fn cases_8_and_13() {
+    admits_one(8, 4, 3);
+    admits_one(8, 4, 4);
+    admits_one(13, 65535, 65536);
+    admits_one(13, 0, 65536);
+    admits_one(13, 65536, 65536);
+    case(13);
+    reads_table(b"");
+}
+
+// A full backlog takes a post of 0; and the last slot that has a number, with the one after it.
+fn cases_9_and_10() {
+    case(9);
+    replays(t(), 0, &[1, 0, 65535, 1, 0, 0, 1, 0, 1]);
+    case(10);
+    replays(t(), 4611686018427387903, &[0, 0, 0, 0, 0, 0]);
+}
+
+fn case_11() {
+    let begun = Arbiter::start(two_places(5, row(1, 6, 5), row(2, 5, 5)), Slots(0));
+    case(11);
+    figures_of(begun.state, 1);
+}
+
+// Place 1 always has a transfer waiting, and place 0 none before slot 11.
+fn case_12() {
+    let mut early = [170u8; 11];
+    let mut late = [170u8; 13];
+    let begun = Arbiter::start(two_places(4, row(1, 40, 4), row(1, 4, 18)), Slots(0));
+    let waiting = post(begun.state, 1, Transfers(24));
+    let before = run(waiting.state, &mut early);
+    let posted = post(before.state, 0, Transfers(30));
+    case(12);
+    decimals(&early);
+    runs(posted.state, &mut late);
+}
+
+// Granted, idle, 22 and 23.
+fn thin_form() {
+    lends(t_with(account(8, 1), account(4, 1), 0));
+    lends(t_with(account(2, 1), account(2, 1), 0));
+    lends(t_with(account(8, 1), account(4, 0), 4611686018427387904));
+    lends(t_with(account(9, 1), account(0, 0), 4611686018427387904));
+}
+
+// Refused posts before two slots, half a call, and a start that is refused.
+fn lists_of_calls() {
+    case(0);
+    replays(t(), 0, &[1, 0, 1, 1, 2, 1, 1, 0, 65536, 0, 0, 0, 0, 0, 0]);
+    case(0);
+    replays(t(), 0, &[1, 1, 2, 0, 0]);
+    case(0);
+    replays(t(), 4611686018427387905, &[1, 1, 2]);
+}
+
+pub fn all() {
+    cases_1_and_2();
+    cases_3_and_4();
+    cases_3_and_5();
+    case_6();
+    case_7();
+    cases_9_and_10();
+    case_11();
+    case_12();
+    cases_8_and_13();
+    thin_form();
+    lists_of_calls();
+}
