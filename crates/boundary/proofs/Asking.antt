@@ -18,9 +18,10 @@ use Rattle.arbiter.specs.State.{sound, placeVerdict}
 use Rattle.arbiter.specs.Asked as asked
 use Rattle.leads.specs.Lead as leads
 use Rattle.table_bytes.specs.Writing as writing
-use Rattle.boundary.specs.Words.{wordsState}
+use Rattle.words.specs.Words.{wordsState}
 use Rattle.boundary.specs.Boundary.{refusalCode, Figured, figuresTold, figured, Led, leadTold, led, Wrote, writeWords, writeCode, writeTold, wrote}
-use Rattle.boundary.specs.Fits.{maxField, lentCode}
+use Rattle.words.specs.Fits.{maxField}
+use Rattle.boundary.specs.Lent.{lentCode}
 use Rattle.boundary.proofs.Boundary.{lent-beside, lent-shut, lent-open}
 
 -- an answer of one number

@@ -27,13 +27,14 @@ use Rattle.calls.specs.Calls.{Call, post, slot, grantOf, slotAnswer, done, rule
 use Rattle.calls.specs.Log.{Outcome, slotsState, slotsLog, runVerdict, run}
 use Rattle.calls.proofs.Verdicts.{called-unsound}
 use Rattle.calls.proofs.Logs.{byte-fits, run-unsound}
-use Rattle.boundary.specs.Words.{stateWords, wordCount, wordsState, rightLength}
-use Rattle.boundary.specs.Numbers.{numberCount, numbersTable}
+use Rattle.words.specs.Words.{stateWords, wordCount, wordsState, rightLength}
+use Rattle.words.specs.Numbers.{numberCount, numbersTable}
 use Rattle.boundary.specs.Boundary.{refusalCode, answerCode, wrongLength, onState, Stated, stated, begun, leaves, started, startedOf, posted, Slotted, slotWords, slotStated, slotted, Ran, runStated, ran}
-use Rattle.boundary.specs.Fits.{maxField, wordsFit, lentCode}
+use Rattle.words.specs.Fits.{maxField, wordsFit}
+use Rattle.boundary.specs.Lent.{lentCode}
 use Rattle.boundary.specs.Places.{Below}
-use Rattle.boundary.proofs.Fitting.{sound-fits}
-use Rattle.boundary.proofs.RoundTrip.{words-shaped, state-written-back}
+use Rattle.words.proofs.Fitting.{sound-fits}
+use Rattle.words.proofs.RoundTrip.{words-shaped, state-written-back}
 
 -- ---- a refusal as a code
 

@@ -23,8 +23,8 @@ use Rattle.table_bytes.specs.Reading.{TableRead, readTable}
 use Rattle.table_bytes.specs.Writing as writing
 use Rattle.calls.specs.Calls.{post, slot, called}
 use Rattle.calls.specs.Log.{Outcome, run}
-use Rattle.boundary.specs.Words.{stateWords, wordsState, rightLength}
-use Rattle.boundary.specs.Numbers.{numbersTable, rightNumbers}
+use Rattle.words.specs.Words.{stateWords, wordsState, rightLength}
+use Rattle.words.specs.Numbers.{numbersTable, rightNumbers}
 
 -- ---- outcomes
 

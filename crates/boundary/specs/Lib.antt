@@ -1,8 +1,5 @@
--- The state as lent words, a table given as numbers, and what each call does to them: the calls of document 01 for firmware in C or Rust.
--- What holds of them together: on_words.
-pub mod Words
-pub mod Numbers
-pub mod RoundTrip
+-- What each call does to lent words: the calls of document 01 for firmware in C or Rust. The words themselves: words. What holds of the
+-- calls together: on_words.
 pub mod Boundary
-pub mod Fits
+pub mod Lent
 pub mod Places

@@ -1,16 +1,16 @@
 // What every call does with lent memory: the checks ahead of it, a refusal as one number, and an answer of two words.
-use crate::fits::STATE_WORDS;
-use crate::fits::words_fit;
 use arbiter::refusals::Cause;
 use arbiter::refusals::Named;
 use arbiter::refusals::StateRefusal;
+use words::fits::STATE_WORDS;
+use words::fits::words_fit;
 ghost use mathlib.Core.Path.{_≡_};
 ghost use mathlib.Core.List.{[], _∷_};
 ghost use lib.ListN.{length};
 ghost use Rattle.arbiter.specs.Limits.{maxPlaces};
 ghost use Rattle.arbiter.specs.Refusals.{refusalOf};
 ghost use Rattle.boundary.specs.Boundary.{refusalCode};
-ghost use Rattle.boundary.specs.Fits.{lentCode};
+ghost use Rattle.boundary.specs.Lent.{lentCode};
 ghost use Rattle.boundary.specs.Places.{Below};
 
 // A lent state or answer of a wrong length. No refusal of document 01 has this number.

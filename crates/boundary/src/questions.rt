@@ -2,7 +2,6 @@
 use crate::lent::check_lent;
 use crate::lent::put_two;
 use crate::lent::refusal_code;
-use crate::reading::state_of;
 use arbiter::asked::FiguresAnswer;
 use arbiter::asked::figures;
 use arbiter::refusals::Cause;
@@ -12,6 +11,7 @@ use leads::LeadAnswer;
 use leads::lead;
 use table_bytes::writer::WriteAnswer;
 use table_bytes::writer::write_table;
+use words::reading::state_of;
 ghost use mathlib.Core.Path.{_≡_};
 ghost use Rattle.arbiter.specs.Limits.{maxPlaces};
 ghost use Rattle.boundary.specs.Boundary.{figured, led, wrote};

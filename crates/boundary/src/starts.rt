@@ -1,10 +1,6 @@
 // The exported calls that make a state: a start from a table's bytes, and one from a table given as numbers.
-use crate::fits::STATE_WORDS;
 use crate::lent::WRONG_LENGTH;
 use crate::lent::refusal_code;
-use crate::numbers::TABLE_NUMBERS;
-use crate::numbers::table_of;
-use crate::writing::put_state;
 use arbiter::start::StartAnswer;
 use arbiter::start::StartResult;
 use arbiter::start::no_state;
@@ -12,6 +8,10 @@ use arbiter::state::Arbiter;
 use arbiter::units::Slots;
 use table_bytes::reader::ReadAnswer;
 use table_bytes::reader::read_table;
+use words::fits::STATE_WORDS;
+use words::numbers::TABLE_NUMBERS;
+use words::numbers::table_of;
+use words::writing::put_state;
 ghost use mathlib.Core.Path.{_≡_};
 ghost use lib.ListN.{length};
 ghost use Rattle.arbiter.specs.declared.refusals.Refusal.{Refusal};
@@ -19,7 +19,7 @@ ghost use Rattle.arbiter.specs.Limits.{maxPlaces};
 ghost use Rattle.arbiter.specs.Answers.{refused};
 ghost use Rattle.arbiter.specs.Start.{startAnswerOf, startResultOf};
 ghost use Rattle.table_bytes.specs.Reading.{readTable};
-ghost use Rattle.boundary.specs.Words.{wordCount};
+ghost use Rattle.words.specs.Words.{wordCount};
 ghost use Rattle.boundary.specs.Boundary.{stated, begun, started, startedOf};
 ghost use Rattle.boundary.specs.Places.{Told};
 

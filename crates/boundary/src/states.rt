@@ -1,10 +1,7 @@
 // The exported calls that change a state: post, slot and run.
-use crate::fits::STATE_WORDS;
 use crate::lent::check_lent;
 use crate::lent::put_two;
 use crate::lent::refusal_code;
-use crate::reading::state_of;
-use crate::writing::put_state;
 use arbiter::units::Transfers;
 use calls::post::PostAnswer;
 use calls::post::post;
@@ -12,9 +9,12 @@ use calls::run::RunAnswer;
 use calls::run::run;
 use calls::slot::SlotAnswer;
 use calls::slot::slot;
+use words::fits::STATE_WORDS;
+use words::reading::state_of;
+use words::writing::put_state;
 ghost use mathlib.Core.Path.{_≡_};
 ghost use Rattle.arbiter.specs.Limits.{maxPlaces};
-ghost use Rattle.boundary.specs.Words.{wordCount};
+ghost use Rattle.words.specs.Words.{wordCount};
 ghost use Rattle.boundary.specs.Boundary.{posted, slotted, ran};
 
 // How many words a state has.

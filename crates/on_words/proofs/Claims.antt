@@ -33,13 +33,13 @@ use Rattle.calls.specs.Log.{Outcome, run}
 use Rattle.calls.proofs.Slots.{after-length}
 use Rattle.calls.proofs.Verdicts.{called-unsound}
 use Rattle.calls.proofs.Logs.{run-unsound}
-use Rattle.boundary.specs.Words.{accountWords, stateWords, wordCount, wordsState, rightLength, rowFrom}
-use Rattle.boundary.specs.Numbers.{allNumbers, numbersRow, numbersTable, rightNumbers}
+use Rattle.words.specs.Words.{accountWords, stateWords, wordCount, wordsState, rightLength, rowFrom}
+use Rattle.words.specs.Numbers.{allNumbers, numbersRow, numbersTable, rightNumbers}
 use Rattle.boundary.specs.Boundary.{refusalCode, answerCode, wrongLength, onState, stated, begun, posted, leaves, started, startedOf, slotWords, slotStated, slotted, runStated, ran, figuresTold, figured, leadTold, led, Wrote, writeCode, writeTold, wrote}
 use Rattle.boundary.specs.Places.{Told}
 use Rattle.on_words.specs.Claims.{Post-by-value, Start-by-value, Starts-agree, Slot-by-value, Run-by-value, Figures-by-value, Lead-by-value, Write-by-value, lentCall, lastTold, In-a-row, Exactly-255, Lengths, Wrong-length, Broken, Broken-words, Start-shaped, Start-of-numbers-shaped, Refused, Clears, Post-refused, Slot-refused, Run-refused, Figures-refused, Lead-refused, Write-refused, Start-refused, Start-of-numbers-refused}
-use Rattle.boundary.proofs.Items.{length-places}
-use Rattle.boundary.proofs.RoundTrip.{words-read-back, numbers-read-back}
+use Rattle.words.proofs.Items.{length-places}
+use Rattle.words.proofs.RoundTrip.{words-read-back, numbers-read-back}
 use Rattle.boundary.proofs.Boundary.{same-words, called-refused, ran-refused}
 use Rattle.boundary.proofs.Places.{code-apart, start-names-below, table-start-names-below, calls-name-below, runs-name-below, leads-name-below, figures-name-below, write-names-below}
 

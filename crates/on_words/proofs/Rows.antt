@@ -17,8 +17,8 @@ use Rattle.table_bytes.specs.Writing.{tableNumbers, tableBytes, writeVerdict, w
 use Rattle.calls.specs.Rule.{eligible, later, firstEligible, served, passed, after}
 use Rattle.calls.specs.Calls.{grantOf, advanced, withCount, withPost, done, ruleVerdict, called}
 use Rattle.calls.specs.Log.{slotsState, slotsLog, slotsVerdict, runVerdict, run}
-use Rattle.boundary.specs.Words.{stateWords, placesFrom, wordsState}
-use Rattle.boundary.specs.Numbers.{numbersTable}
+use Rattle.words.specs.Words.{stateWords, placesFrom, wordsState}
+use Rattle.words.specs.Numbers.{numbersTable}
 use Rattle.boundary.specs.Boundary.{refusalCode, onState, posted, begun, leaves, started, startedOf, slotted, ran, figured, led, wrote}
 use Rattle.on_words.specs.Rows.{twoPlaces, rated, startRows, numberRows, postRows, slotRows, runRows, askedRows, writeRows, Pass, All-pass}
 

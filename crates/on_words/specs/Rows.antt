@@ -6,7 +6,7 @@ use Prim.Native.Nat.{ℕ, _+_, _-_, _*_}
 use lib.IntN.{ℤ, pos, negsuc}
 use lib.ListN.{replicate}
 use Rattle.arbiter.specs.Limits.{maxPlaces, maxSlot}
-use Rattle.boundary.specs.Words.{wordCount}
+use Rattle.words.specs.Words.{wordCount}
 use Rattle.boundary.specs.Boundary.{Stated, started, startedOf, posted, Slotted, slotted, Ran, ran, Figured, figured, Led, led, Wrote, wrote}
 
 -- ---- words

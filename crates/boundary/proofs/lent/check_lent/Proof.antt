@@ -2,7 +2,7 @@
 use mathlib.Core.Path.{sym, _∙_}
 use borrow.Author.Needs.{needs}
 use borrow.Author.Tests.{not-true, not-false, ne-eqb, eq-eqb}
-use Rattle.boundary.specs.Fits.{lentCode}
+use Rattle.boundary.specs.Lent.{lentCode}
 use Rattle.boundary.proofs.lent.check_lent.Statement.{statement}
 use Rattle.boundary.proofs.lent.check_lent.Tie as tie
 

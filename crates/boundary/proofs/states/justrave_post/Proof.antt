@@ -5,7 +5,7 @@ use native.Mathlib.Omega.{arith}
 use borrow.Author.Needs.{needs}
 use Rattle.arbiter.specs.Limits.{maxPlaces}
 use Rattle.boundary.proofs.Boundary.{lent-fits, post-shut, post-told, post-refused}
-use Rattle.boundary.proofs.Fitting.{fit-open}
+use Rattle.words.proofs.Fitting.{fit-open}
 use Rattle.boundary.specs.Boundary.{answerCode}
 use Rattle.calls.specs.Calls.{postAnswerOf, postResultOf}
 use Rattle.boundary.proofs.Places.{calls-name-below}

@@ -5,7 +5,7 @@ use native.Mathlib.Omega.{arith}
 use borrow.Author.Needs.{needs}
 use Rattle.arbiter.specs.Limits.{maxPlaces}
 use Rattle.boundary.proofs.Boundary.{lent-fits, run-shut, run-told, run-refused}
-use Rattle.boundary.proofs.Fitting.{fit-open}
+use Rattle.words.proofs.Fitting.{fit-open}
 use Rattle.boundary.specs.Boundary.{answerCode}
 use Rattle.calls.specs.Log.{runAnswerOf, outcomeOf}
 use Rattle.boundary.proofs.Places.{runs-name-below}

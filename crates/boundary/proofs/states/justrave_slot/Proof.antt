@@ -6,7 +6,7 @@ use lib.Dec.{eqb}
 use lib.ListN.{length}
 use Rattle.arbiter.specs.Limits.{maxPlaces}
 use Rattle.boundary.proofs.Boundary.{lent-fits, slot-shut, slot-beside, slot-told, slot-refused, granted-small}
-use Rattle.boundary.proofs.Fitting.{fit-open}
+use Rattle.words.proofs.Fitting.{fit-open}
 use Rattle.boundary.specs.Boundary.{answerCode, slotWords}
 use Rattle.calls.specs.Calls.{slotAnswerOf, slotResultOf}
 use Rattle.boundary.proofs.Places.{calls-name-below}
