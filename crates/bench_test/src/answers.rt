@@ -18,8 +18,6 @@ use bench_parts::printing::say;
 use bench_parts::printing::state;
 use bench_parts::printing::table;
 use bench_parts::printing::told;
-use calls::run::RunAnswer;
-use calls::run::run;
 use calls::slot::SlotAnswer;
 use groups::reading::Reading;
 use groups::reading::read_number;
@@ -29,6 +27,8 @@ use in_place::slot_of_a_loan;
 use leads::LeadAnswer;
 use leads::lead;
 use replay::replay;
+use run::run::RunAnswer;
+use run::run::run;
 use table_bytes::reader::ReadAnswer;
 use table_bytes::reader::read_table;
 

@@ -20,7 +20,7 @@ use bench_parts::values::t;
 use bench_parts::values::t_with;
 use bench_parts::values::two_places;
 use calls::post::post;
-use calls::run::run;
+use run::run::run;
 
 fn cases_1_and_2() {
     case(1);

@@ -21,12 +21,12 @@ use Rattle.arbiter.specs.State.{sound}
 use Rattle.arbiter.specs.Start.{noState, start}
 use Rattle.arbiter.proofs.Sound.{sound-open}
 use Rattle.table_bytes.specs.Reading.{TableRead, readTable}
-use Rattle.calls.specs.declared.slot.Grant.{Grant}
-use Rattle.calls.specs.declared.slot.Grant.the-variants.{Nobody, Place}
+use Rattle.rule.specs.declared.rule.Grant.{Grant}
+use Rattle.rule.specs.declared.rule.Grant.the-variants.{Nobody, Place}
 use Rattle.calls.specs.Calls.{Call, post, slot, grantOf, slotAnswer, done, ruleVerdict, outcome, called}
-use Rattle.calls.specs.Log.{Outcome, slotsState, slotsLog, runVerdict, run}
+use Rattle.run.specs.Log.{Outcome, slotsState, slotsLog, runVerdict, run}
 use Rattle.calls.proofs.Verdicts.{called-unsound}
-use Rattle.calls.proofs.Logs.{byte-fits, run-unsound}
+use Rattle.run.proofs.Logs.{byte-fits, run-unsound}
 use Rattle.words.specs.Words.{stateWords, wordCount, wordsState, rightLength}
 use Rattle.words.specs.Numbers.{numberCount, numbersTable}
 use Rattle.boundary.specs.Boundary.{refusalCode, answerCode, wrongLength, onState, Stated, stated, begun, leaves, started, startedOf, posted, Slotted, slotWords, slotStated, slotted, Ran, runStated, ran}

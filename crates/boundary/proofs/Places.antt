@@ -35,10 +35,10 @@ use Rattle.arbiter.proofs.Sound.{place-open, sound-table}
 use Rattle.table_bytes.specs.Reading.{Read, read, stop, next, readAs, numberRead, fieldRead, rowRead, itemsRead, rowsRead, placesRead, numbersRead, lastVerdict, TableRead, accept, refuse, settled, readTable}
 use Rattle.table_bytes.specs.Writing as writing
 use Rattle.leads.specs.Lead as leads
-use Rattle.calls.specs.declared.slot.Grant.{Grant}
-use Rattle.calls.specs.declared.slot.Grant.the-variants.{Nobody, Place}
+use Rattle.rule.specs.declared.rule.Grant.{Grant}
+use Rattle.rule.specs.declared.rule.Grant.the-variants.{Nobody, Place}
 use Rattle.calls.specs.Calls.{Call, post, slot, grantOf, slotAnswer, done, ruleVerdict, outcome, called}
-use Rattle.calls.specs.Log.{Outcome, slotsState, slotsLog, slotsVerdict, runVerdict, run}
+use Rattle.run.specs.Log.{Outcome, slotsState, slotsLog, slotsVerdict, runVerdict, run}
 use Rattle.table_bytes.proofs.Accepted.{stop-read, next-open, read-same, field-open}
 use Rattle.boundary.specs.Boundary.{placeCode, refusalCode, begun}
 use Rattle.boundary.specs.Places.{known, Told, Code-tells, Code-apart, Start-names-below, Table-start-names-below, Calls-name-below, Runs-name-below, Leads-name-below, Figures-name-below, Write-names-below}

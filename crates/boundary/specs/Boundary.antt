@@ -22,7 +22,7 @@ use Rattle.leads.specs.Lead as leads
 use Rattle.table_bytes.specs.Reading.{TableRead, readTable}
 use Rattle.table_bytes.specs.Writing as writing
 use Rattle.calls.specs.Calls.{post, slot, called}
-use Rattle.calls.specs.Log.{Outcome, run}
+use Rattle.run.specs.Log.{Outcome, run}
 use Rattle.words.specs.Words.{stateWords, wordsState, rightLength}
 use Rattle.words.specs.Numbers.{numbersTable, rightNumbers}
 

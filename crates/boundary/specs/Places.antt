@@ -18,7 +18,7 @@ use Rattle.leads.specs.Lead as leads
 use Rattle.table_bytes.specs.Reading.{readTable}
 use Rattle.table_bytes.specs.Writing as writing
 use Rattle.calls.specs.Calls.{Call, called}
-use Rattle.calls.specs.Log.{run}
+use Rattle.run.specs.Log.{run}
 use Rattle.boundary.specs.Boundary.{refusalCode, wrongLength, begun}
 
 abbrev pub Below : ℕ → Named → Type 0

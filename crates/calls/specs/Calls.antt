@@ -11,15 +11,15 @@ use Rattle.arbiter.specs.Refusals.{Verdict, faultless, refusal, refusalOf, gate
 use Rattle.arbiter.specs.Answers.{Answer, accepted, granted, idle, refused}
 use Rattle.arbiter.specs.Table.{requestorsOf}
 use Rattle.arbiter.specs.State.{backlog, accountAt, sound, atPlace}
-use Rattle.calls.specs.declared.slot.Grant.{Grant}
-use Rattle.calls.specs.declared.slot.Grant.the-variants.{Nobody, Place}
+use Rattle.rule.specs.declared.rule.Grant.{Grant}
+use Rattle.rule.specs.declared.rule.Grant.the-variants.{Nobody, Place}
 use Rattle.calls.specs.declared.post.PostAnswer.{PostAnswer}
 use Rattle.calls.specs.declared.post.PostAnswer.the-variants as post-answer
 use Rattle.calls.specs.declared.post.PostResult.{PostResult}
 use Rattle.calls.specs.declared.slot.SlotAnswer.{SlotAnswer}
 use Rattle.calls.specs.declared.slot.SlotAnswer.the-variants as slot-answer
 use Rattle.calls.specs.declared.slot.SlotResult.{SlotResult}
-use Rattle.calls.specs.Rule.{firstEligible, after}
+use Rattle.rule.specs.Rule.{firstEligible, after}
 
 pub data Call : Type 0 where
   post : (place count : ℕ) → Call

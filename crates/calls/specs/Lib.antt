@@ -1,6 +1,2 @@
--- Document 01's rule of a slot, and what a post, a slot and a run do to a state.
-pub mod Rule
-pub mod Grants
-pub mod Columns
+-- What a post and a slot do to a state.
 pub mod Calls
-pub mod Log

@@ -1,7 +1,4 @@
-// What calls do to the arbiter's state: post, slot and run.
+// What calls do to the arbiter's state: post and slot.
 
-mod columns;
 pub mod post;
-mod rule;
-pub mod run;
 pub mod slot;

@@ -1,12 +1,13 @@
 // A slot of a state: its checks, the rule on the state's columns, and its answer.
-use crate::columns::account_columns_of;
-use crate::columns::accounts_of;
-use crate::rule::one_slot;
 use arbiter::refusals::Cause;
 use arbiter::refusals::StateRefusal;
 use arbiter::state::Arbiter;
 use arbiter::sums::columns_of;
 use arbiter::units::Slots;
+use rule::columns::account_columns_of;
+use rule::columns::accounts_of;
+use rule::rule::Grant;
+use rule::rule::one_slot;
 ghost use mathlib.Core.Path.{_≡_};
 ghost use mathlib.Core.Bool.{true};
 ghost use Prim.Native.Nat.{_<_};
@@ -15,12 +16,6 @@ ghost use Rattle.arbiter.specs.Refusals.{refusalOf};
 ghost use Rattle.arbiter.specs.Answers.{refused};
 ghost use Rattle.arbiter.specs.State.{sound};
 ghost use Rattle.calls.specs.Calls.{slot, grantOf, advanced, done, called, slotResultOf};
-
-// Whom a slot grants.
-pub enum Grant {
-    Nobody,
-    Place(usize),
-}
 
 pub enum SlotAnswer {
     Granted(Slots, usize),

@@ -14,10 +14,10 @@ use Rattle.arbiter.specs.Input.{inputVerdict}
 use Rattle.leads.specs.Lead.{leadOf, leadVerdict, leadAsked}
 use Rattle.table_bytes.specs.Reading.{next, fieldRead, rowRead, itemsRead, placesRead, numbersRead, lastVerdict, settled, readTable}
 use Rattle.table_bytes.specs.Writing.{tableNumbers, tableBytes, writeVerdict, writeTable}
-use Rattle.calls.specs.Rule.{eligible, later, firstEligible, served, passed, after}
-use Rattle.calls.specs.Grants.{toPlace}
+use Rattle.rule.specs.Rule.{eligible, later, firstEligible, served, passed, after}
+use Rattle.rule.specs.Grants.{toPlace}
 use Rattle.calls.specs.Calls.{grantOf, advanced, withCount, withPost, done, ruleVerdict, called}
-use Rattle.calls.specs.Log.{slotsState, slotsLog, slotsVerdict, runVerdict, run}
+use Rattle.run.specs.Log.{slotsState, slotsLog, slotsVerdict, runVerdict, run}
 use Rattle.replay.specs.Replay.{callOf, callsOf, madeCalls, answerWords, callsFrom, continued, replay}
 use Rattle.lines.specs.Text.{digitsOf, decimal, spaced, line}
 use Rattle.lines.specs.Lines.{header, endLine, refusedLine, slotLine}

@@ -24,7 +24,7 @@ use Rattle.leads.specs.Lead.{LeadAnswer, leadVerdict, leadAsked}
 use Rattle.table_bytes.specs.Reading.{Read, numberRead, readTable}
 use Rattle.table_bytes.specs.Writing.{WriteAnswer, writeTable}
 use Rattle.calls.specs.Calls.{Call, post, slot, called}
-use Rattle.calls.specs.Log.{runVerdict, run}
+use Rattle.run.specs.Log.{runVerdict, run}
 use Rattle.guarantees.specs.Counts.{slotsIn, grantsTo, stateAfter, heardFrom}
 use Rattle.replay.specs.Replay.{replay}
 use Rattle.listing.specs.Listing.{listing}

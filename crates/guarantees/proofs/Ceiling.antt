@@ -13,13 +13,13 @@ use Rattle.arbiter.specs.Table.{rate, burst, requestorsOf}
 use Rattle.arbiter.specs.State.{credit}
 use Rattle.arbiter.proofs.Sound.{Sound}
 use Rattle.calls.specs.Calls.{Call, grantOf, advanced, ruled}
-use Rattle.calls.proofs.Head.{slotted}
+use Rattle.run.proofs.Head.{slotted}
 use Rattle.guarantees.specs.Counts.{slotsIn, grantsToFirst}
 use Rattle.guarantees.specs.Demand3.{Ceiling}
 use Rattle.guarantees.proofs.Grants.{slotIn, grantToFirst, slot-in, grant-to-first}
-use Rattle.calls.proofs.Credits.{slotted-rise}
+use Rattle.run.proofs.Credits.{slotted-rise}
 use Rattle.guarantees.proofs.Step.{by-kind, table-stands, posted-credits}
-use Rattle.calls.proofs.Kept.{sound-credits}
+use Rattle.run.proofs.Kept.{sound-credits}
 
 module _ (T : Table) (k C : ℕ) where
   -- T stands, and t slots with g grants to the first k places keep their credits within C + t × rates

@@ -13,13 +13,13 @@ use Rattle.arbiter.specs.State.{backlog, accountAt}
 use Rattle.arbiter.specs.Start.{opening}
 use Rattle.arbiter.proofs.Sound.{Sound, opening-backlog}
 use Rattle.calls.specs.Calls.{Call, post, slot, grantOf, advanced, ruled}
-use Rattle.calls.proofs.Head.{slotted}
+use Rattle.run.proofs.Head.{slotted}
 use Rattle.guarantees.specs.Counts.{grantsTo}
 use Rattle.guarantees.specs.Conservation.{brought, broughtTo, Conservation}
 use Rattle.guarantees.proofs.Grants.{grantTo, grant-to}
-use Rattle.calls.proofs.Slots.{slotted-backlog}
+use Rattle.run.proofs.Slots.{slotted-backlog}
 use Rattle.guarantees.proofs.Step.{by-kind, post-place, posted-backlog}
-use Rattle.calls.proofs.Kept.{accounts-cover}
+use Rattle.run.proofs.Kept.{accounts-cover}
 use Rattle.guarantees.proofs.Sound.{sound-next}
 use Rattle.guarantees.proofs.Start.{opening-sound, entered-ruled, answered-ruled}
 

@@ -21,13 +21,13 @@ use Rattle.arbiter.specs.Answers.{Answer}
 use Rattle.arbiter.specs.Table.{requestorsOf}
 use Rattle.arbiter.specs.State.{noAccount, accountAt, sound}
 use Rattle.arbiter.proofs.Sound.{Sound}
-use Rattle.calls.specs.declared.slot.Grant.{Grant}
-use Rattle.calls.specs.declared.slot.Grant.the-variants.{Nobody, Place}
-use Rattle.calls.specs.Rule.{eligible, later, firstEligible, served, passed, after}
+use Rattle.rule.specs.declared.rule.Grant.{Grant}
+use Rattle.rule.specs.declared.rule.Grant.the-variants.{Nobody, Place}
+use Rattle.rule.specs.Rule.{eligible, later, firstEligible, served, passed, after}
 use Rattle.calls.specs.Calls.{Call, post, slot, grantOf, advanced, withPost, slotAnswer, done, ruleVerdict, outcome, ruled, called}
 use Rattle.guarantees.specs.Counts.{startState}
 use Rattle.guarantees.specs.Isolation.{Isolation, Post-apart, keep, concerning, view, Shown, shows, shown}
-use Rattle.calls.proofs.Head.{after-later, first-no-account, after-no-account}
+use Rattle.run.proofs.Head.{after-later, first-no-account, after-no-account}
 use Rattle.guarantees.proofs.Step.{by-kind}
 use Rattle.guarantees.proofs.Sound.{sound-next, call-ruled}
 use Rattle.guarantees.proofs.Orders.{concernsFirst, concerningFirst, any-order}

@@ -22,14 +22,14 @@ use Rattle.arbiter.specs.Table.{rate, burst, noRequestor, requestorAt, requesto
 use Rattle.arbiter.specs.Figures.{burstsAbove, rateLeft}
 use Rattle.leads.specs.Lead.{bytesEqual, leadOf, leadIn}
 use Rattle.arbiter.proofs.Sound.{sound-open}
-use Rattle.calls.specs.declared.slot.Grant.{Grant}
-use Rattle.calls.specs.declared.slot.Grant.the-variants.{Nobody, Place}
-use Rattle.calls.specs.Grants.{toPlace, toFirst}
+use Rattle.rule.specs.declared.rule.Grant.{Grant}
+use Rattle.rule.specs.declared.rule.Grant.the-variants.{Nobody, Place}
+use Rattle.rule.specs.Grants.{toPlace, toFirst}
 use Rattle.calls.specs.Calls.{ruled}
-use Rattle.calls.specs.Log.{run}
-use Rattle.calls.proofs.Grants.{to-first-zero}
-use Rattle.calls.proofs.Kept.{fair-table}
-use Rattle.calls.proofs.Logs.{length-log}
+use Rattle.run.specs.Log.{run}
+use Rattle.run.proofs.Grants.{to-first-zero}
+use Rattle.run.proofs.Kept.{fair-table}
+use Rattle.run.proofs.Logs.{length-log}
 use Rattle.guarantees.specs.Counts.{slotsIn, grantsTo, grantsToFirst}
 use Rattle.guarantees.specs.RunSlots.{slots, answerByte}
 use Rattle.guarantees.specs.Leads.{summedLeads, Leads-of-a-run}

@@ -17,8 +17,8 @@ use Rattle.arbiter.specs.Input.{inputVerdict}
 use Rattle.arbiter.proofs.Checks.{gate-open, then-open}
 use Rattle.arbiter.proofs.Sound.{sound-shut, sound-open}
 use Rattle.calls.specs.Calls.{slot, grantOf, advanced, slotAnswer, done, ruleVerdict, ruled}
-use Rattle.calls.specs.Log.{grantByte, slotsState, slotsLog, slotsVerdict, runVerdict, Outcome, run}
-use Rattle.calls.proofs.Logs.{slots-sound, state-adds, log-adds}
+use Rattle.run.specs.Log.{grantByte, slotsState, slotsLog, slotsVerdict, runVerdict, Outcome, run}
+use Rattle.run.proofs.Logs.{slots-sound, state-adds, log-adds}
 use Rattle.guarantees.specs.Counts.{slotsIn, stateAfter}
 use Rattle.guarantees.specs.RunSlots.{slots, answerByte, Run-is-slots, Run-from-start, Run-splits}
 use Rattle.guarantees.proofs.Grants.{slotIn, in-slot-answer, slot-in}

@@ -16,17 +16,17 @@ use Rattle.arbiter.specs.Table.{requestorsOf, requestorAt}
 use Rattle.arbiter.specs.Figures.{burstsAbove, ratesAbove, rateLeft}
 use Rattle.arbiter.specs.State.{credit, backlog, accountAt}
 use Rattle.arbiter.proofs.Sound.{Sound, rates-most, sound-fair, sound-open}
-use Rattle.calls.specs.Rule.{firstEligible}
+use Rattle.rule.specs.Rule.{firstEligible}
 use Rattle.calls.specs.Calls.{Call, grantOf, advanced, ruled}
-use Rattle.calls.proofs.Head.{slotted}
-use Rattle.calls.specs.Grants.{toPlace}
+use Rattle.run.proofs.Head.{slotted}
+use Rattle.rule.specs.Grants.{toPlace}
 use Rattle.guarantees.specs.Counts.{slotsIn, grantsTo, Waits, WaitsAt}
 use Rattle.guarantees.specs.SharperFloor.{Sharp, Sharper, Sharper-floor}
 use Rattle.guarantees.proofs.Grants.{slotIn, grantTo, slot-in, grant-to, slot-meets}
-use Rattle.calls.proofs.Credits.{Roomy, slotted-rise, slotted-within}
+use Rattle.run.proofs.Credits.{Roomy, slotted-rise, slotted-within}
 use Rattle.guarantees.proofs.Turns.{Turn, above, own, short, turn}
 use Rattle.guarantees.proofs.Step.{by-kind, table-stands, posted-credits, posted-credit}
-use Rattle.calls.proofs.Kept.{places-count, sound-roomy, sound-credits}
+use Rattle.run.proofs.Kept.{places-count, sound-roomy, sound-credits}
 use Rattle.guarantees.proofs.Sound.{sound-next, answers-ruled}
 use Rattle.guarantees.proofs.CreditSums.{rate-left}
 

@@ -14,7 +14,7 @@ use Rattle.arbiter.specs.declared.state.Arbiter.{Arbiter}
 use Rattle.arbiter.specs.Refusals.{faultless, gate}
 use Rattle.arbiter.proofs.Sound.{Sound, sound-shut}
 use Rattle.calls.specs.Calls.{Call, post, withCount, withPost, ruleVerdict, ruled, called}
-use Rattle.calls.proofs.Kept.{accounts-cover, advanced-sound}
+use Rattle.run.proofs.Kept.{accounts-cover, advanced-sound}
 use Rattle.guarantees.proofs.Step.{by-kind, post-place, post-fits, posted-credits, posted-backlog, slot-below}
 
 module _ (limit : ℕ) (s : Arbiter) where

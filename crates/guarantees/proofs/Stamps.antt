@@ -12,8 +12,8 @@ use Rattle.lists.specs.Runs
 use Rattle.arbiter.specs.declared.state.Arbiter.{Arbiter}
 use Rattle.arbiter.specs.Answers.{Answer}
 use Rattle.arbiter.specs.Start.{opening}
-use Rattle.calls.specs.declared.slot.Grant.{Grant}
-use Rattle.calls.specs.declared.slot.Grant.the-variants.{Nobody, Place}
+use Rattle.rule.specs.declared.rule.Grant.{Grant}
+use Rattle.rule.specs.declared.rule.Grant.the-variants.{Nobody, Place}
 use Rattle.calls.specs.Calls.{Call, grantOf, advanced, withPost, slotAnswer, ruled}
 use Rattle.guarantees.specs.Counts.{slotsIn}
 use Rattle.guarantees.specs.Stamps.{Stamps, Distinct-stamps, stampsIn, countedFrom}

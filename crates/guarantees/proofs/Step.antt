@@ -18,8 +18,8 @@ use Rattle.arbiter.specs.Refusals.{Verdict, faultless, fault, refusal}
 use Rattle.arbiter.specs.Answers.{Answer, accepted, refused}
 use Rattle.arbiter.specs.State.{credit, backlog, noAccount, accountAt}
 use Rattle.arbiter.proofs.Checks.{faultless-fault, gate-open, gate-not}
-use Rattle.calls.specs.declared.slot.Grant.{Grant}
-use Rattle.calls.specs.declared.slot.Grant.the-variants.{Nobody, Place}
+use Rattle.rule.specs.declared.rule.Grant.{Grant}
+use Rattle.rule.specs.declared.rule.Grant.the-variants.{Nobody, Place}
 use Rattle.calls.specs.Calls.{Call, post, slot, grantOf, advanced, withCount, withPost, slotAnswer, done, ruleVerdict, outcome, ruled}
 use Rattle.calls.proofs.Verdicts.{outcome-table}
 

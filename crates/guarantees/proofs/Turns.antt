@@ -9,12 +9,12 @@ use Rattle.arbiter.specs.declared.table.Requestor.{Requestor}
 use Rattle.arbiter.specs.declared.state.Account.{Account}
 use Rattle.arbiter.specs.State.{credit, backlog, accountAt}
 use Rattle.arbiter.specs.Table.{requestorAt}
-use Rattle.calls.specs.declared.slot.Grant.the-variants.{Nobody}
-use Rattle.calls.specs.Rule.{firstEligible, served, after}
-use Rattle.calls.proofs.Accounts.{passed-waiting}
-use Rattle.calls.proofs.Head.{slotted, Passed, by-head}
-use Rattle.calls.specs.Grants.{toPlace, toFirst}
-use Rattle.calls.proofs.Grants.{to-first-zero}
+use Rattle.rule.specs.declared.rule.Grant.the-variants.{Nobody}
+use Rattle.rule.specs.Rule.{firstEligible, served, after}
+use Rattle.rule.proofs.Accounts.{passed-waiting}
+use Rattle.run.proofs.Head.{slotted, Passed, by-head}
+use Rattle.rule.specs.Grants.{toPlace, toFirst}
+use Rattle.run.proofs.Grants.{to-first-zero}
 
 pub data Turn (d p : ℕ) (rs : List Requestor) (accounts : List Account) : Type 0 where
   above : toFirst p (firstEligible d rs accounts) ≡ 1 → toPlace p (firstEligible d rs accounts) ≡ 0

@@ -14,7 +14,7 @@ use Rattle.arbiter.specs.Table.{burst, requestorAt, requestorsOf}
 use Rattle.arbiter.specs.Figures.{burstsAbove, rateLeft}
 use Rattle.arbiter.specs.State.{credit, accountAt, Shaped}
 use Rattle.leads.specs.Lead.{leadIn}
-use Rattle.calls.specs.Log.{run}
+use Rattle.run.specs.Log.{run}
 use Rattle.guarantees.specs.Counts.{Waits}
 use Rattle.guarantees.specs.RunSlots.{slots}
 

@@ -10,7 +10,7 @@ use Rattle.arbiter.specs.declared.state.Arbiter.{Arbiter}
 use Rattle.arbiter.specs.Answers.{Answer, accepted}
 use Rattle.arbiter.specs.State.{Shaped}
 use Rattle.calls.specs.Calls.{Call, slot, called}
-use Rattle.calls.specs.Log.{grantByte, run}
+use Rattle.run.specs.Log.{grantByte, run}
 use Rattle.guarantees.specs.Counts.{inSlot, slotsIn, Accepted, stateAfter, heardFrom}
 
 -- so many calls of slot

@@ -13,7 +13,7 @@ use Rattle.lists.proofs.Putting.{Put, put-none}
 use Rattle.arbiter.specs.declared.state.Account.{Account}
 use Rattle.arbiter.specs.declared.state.Arbiter.{Arbiter}
 use Rattle.arbiter.specs.State.{noAccount, accountAt}
-use Rattle.calls.specs.declared.slot.Grant.{Grant}
+use Rattle.rule.specs.declared.rule.Grant.{Grant}
 use Rattle.lines.specs.Text.{decimal, spaced, line}
 use Rattle.lines.specs.Lines.{placeItem, creditItem, creditItems, slotLine}
 

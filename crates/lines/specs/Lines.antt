@@ -7,8 +7,8 @@ use Rattle.arbiter.specs.declared.refusals.Refusal.{Refusal}
 use Rattle.arbiter.specs.declared.state.Account.{Account}
 use Rattle.arbiter.specs.declared.state.Arbiter.{Arbiter}
 use Rattle.arbiter.specs.State.{credit}
-use Rattle.calls.specs.declared.slot.Grant.{Grant}
-use Rattle.calls.specs.declared.slot.Grant.the-variants.{Nobody, Place}
+use Rattle.rule.specs.declared.rule.Grant.{Grant}
+use Rattle.rule.specs.declared.rule.Grant.the-variants.{Nobody, Place}
 use Rattle.lines.specs.Text.{decimal, line}
 
 -- slot, place, credits

@@ -5,7 +5,7 @@ use crate::text::put_number;
 use arbiter::refusals::Cause;
 use arbiter::state::Arbiter;
 use arbiter::units::Slots;
-use calls::slot::Grant;
+use rule::rule::Grant;
 ghost use mathlib.Core.Path.{_≡_};
 ghost use mathlib.Core.List.{[], _∷_};
 ghost use Prim.Native.Nat.{_≤_};

@@ -23,8 +23,8 @@ use Rattle.arbiter.specs.Start.{noState}
 use Rattle.arbiter.proofs.Checks.{fair}
 use Rattle.arbiter.proofs.Sound.{sound-table}
 use Rattle.table_bytes.specs.Reading.{read, stop}
-use Rattle.calls.specs.declared.slot.Grant.{Grant}
-use Rattle.calls.specs.declared.slot.Grant.the-variants.{Nobody, Place}
+use Rattle.rule.specs.declared.rule.Grant.{Grant}
+use Rattle.rule.specs.declared.rule.Grant.the-variants.{Nobody, Place}
 use Rattle.calls.specs.Calls.{Call, post, slot, done, called, ruleVerdict}
 use Rattle.calls.proofs.Verdicts.{outcome-table}
 use Rattle.lines.specs.Text.{decimal, spaced, line}

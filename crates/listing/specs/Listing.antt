@@ -13,7 +13,7 @@ use Rattle.arbiter.specs.Answers.{Answer, accepted, granted, idle, refused, unl
 use Rattle.arbiter.specs.State.{sound}
 use Rattle.arbiter.specs.Start.{noState}
 use Rattle.table_bytes.specs.Reading.{Read, read, stop}
-use Rattle.calls.specs.declared.slot.Grant.the-variants.{Nobody, Place}
+use Rattle.rule.specs.declared.rule.Grant.the-variants.{Nobody, Place}
 use Rattle.calls.specs.Calls.{post, slot, called}
 use Rattle.lines.specs.Lines.{header, endLine, refusedLine, slotLine}
 use Rattle.reads.specs.Reads.{countsRead, begun}

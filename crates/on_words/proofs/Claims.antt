@@ -29,10 +29,10 @@ use Rattle.table_bytes.specs.Reading.{Read, read, stop, next, fieldRead, rowsRe
 use Rattle.table_bytes.specs.Writing as writing
 use Rattle.table_bytes.proofs.Accepted.{next-open, read-same, field-open, rows-open}
 use Rattle.calls.specs.Calls.{Call, post, slot, grantOf, advanced, withPost, done, ruleVerdict, outcome, called}
-use Rattle.calls.specs.Log.{Outcome, run}
-use Rattle.calls.proofs.Slots.{after-length}
+use Rattle.run.specs.Log.{Outcome, run}
+use Rattle.run.proofs.Slots.{after-length}
 use Rattle.calls.proofs.Verdicts.{called-unsound}
-use Rattle.calls.proofs.Logs.{run-unsound}
+use Rattle.run.proofs.Logs.{run-unsound}
 use Rattle.words.specs.Words.{accountWords, stateWords, wordCount, wordsState, rightLength, rowFrom}
 use Rattle.words.specs.Numbers.{allNumbers, numbersRow, numbersTable, rightNumbers}
 use Rattle.boundary.specs.Boundary.{refusalCode, answerCode, wrongLength, onState, stated, begun, posted, leaves, started, startedOf, slotWords, slotStated, slotted, runStated, ran, figuresTold, figured, leadTold, led, Wrote, writeCode, writeTold, wrote}

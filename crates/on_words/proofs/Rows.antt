@@ -14,9 +14,9 @@ use Rattle.arbiter.specs.Input.{inputVerdict}
 use Rattle.leads.specs.Lead.{leadOf, leadVerdict, leadAsked}
 use Rattle.table_bytes.specs.Reading.{next, fieldRead, rowRead, itemsRead, placesRead, numbersRead, lastVerdict, settled, readTable}
 use Rattle.table_bytes.specs.Writing.{tableNumbers, tableBytes, writeVerdict, writeTable}
-use Rattle.calls.specs.Rule.{eligible, later, firstEligible, served, passed, after}
+use Rattle.rule.specs.Rule.{eligible, later, firstEligible, served, passed, after}
 use Rattle.calls.specs.Calls.{grantOf, advanced, withCount, withPost, done, ruleVerdict, called}
-use Rattle.calls.specs.Log.{slotsState, slotsLog, slotsVerdict, runVerdict, run}
+use Rattle.run.specs.Log.{slotsState, slotsLog, slotsVerdict, runVerdict, run}
 use Rattle.words.specs.Words.{stateWords, placesFrom, wordsState}
 use Rattle.words.specs.Numbers.{numbersTable}
 use Rattle.boundary.specs.Boundary.{refusalCode, onState, posted, begun, leaves, started, startedOf, slotted, ran, figured, led, wrote}

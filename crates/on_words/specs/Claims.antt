@@ -19,7 +19,7 @@ use Rattle.leads.specs.Lead as leads
 use Rattle.table_bytes.specs.Reading.{readTable}
 use Rattle.table_bytes.specs.Writing as writing
 use Rattle.calls.specs.Calls.{Call, post, slot, called}
-use Rattle.calls.specs.Log.{run}
+use Rattle.run.specs.Log.{run}
 use Rattle.words.specs.Words.{stateWords, wordCount, wordsState, rightLength}
 use Rattle.words.specs.Numbers.{allNumbers, numbersTable, rightNumbers}
 use Rattle.boundary.specs.Boundary.{answerCode, wrongLength, Stated, stated, posted, begun, started, startedOf, slotWords, slotStated, slotted, runStated, ran, figuresTold, figured, leadTold, led, writeTold, wrote}

@@ -7,7 +7,7 @@ use Rattle.arbiter.specs.Limits.{maxPlaces}
 use Rattle.boundary.proofs.Boundary.{lent-fits, run-shut, run-told, run-refused}
 use Rattle.words.proofs.Fitting.{fit-open}
 use Rattle.boundary.specs.Boundary.{answerCode}
-use Rattle.calls.specs.Log.{runAnswerOf, outcomeOf}
+use Rattle.run.specs.Log.{runAnswerOf, outcomeOf}
 use Rattle.boundary.proofs.Places.{runs-name-below}
 use Rattle.boundary.proofs.states.justrave_run.Statement.{statement}
 use Rattle.boundary.proofs.states.justrave_run.Tie as tie

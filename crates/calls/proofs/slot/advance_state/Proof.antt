@@ -7,7 +7,7 @@ use Rattle.arbiter.specs.Limits.{maxPlaces}
 use Rattle.arbiter.proofs.Sound.{Sound, sound-open}
 use Rattle.arbiter.proofs.Shapes.{shaped}
 use Rattle.calls.specs.Calls.{advanced}
-use Rattle.calls.proofs.InColumns.{own-columns, own-room, own-grant, own-after}
+use Rattle.calls.proofs.OwnColumns.{own-columns, own-room, own-grant, own-after}
 use Rattle.calls.proofs.slot.advance_state.Statement.{statement}
 use Rattle.calls.proofs.slot.advance_state.Tie as tie
 

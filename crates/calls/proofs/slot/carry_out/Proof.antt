@@ -4,7 +4,7 @@ use borrow.Author.Needs.{needs}
 use Rattle.lists.specs.Runs.{Result}
 use Rattle.arbiter.specs.declared.state.Arbiter.{Arbiter}
 use Rattle.arbiter.specs.Answers.{Answer}
-use Rattle.calls.specs.declared.slot.Grant.{Grant}
+use Rattle.rule.specs.declared.rule.Grant.{Grant}
 use Rattle.calls.specs.Calls.{slot, grantOf, advanced, slotAnswer, done}
 use Rattle.calls.proofs.slot.carry_out.Statement.{statement}
 use Rattle.calls.proofs.slot.carry_out.Tie as tie

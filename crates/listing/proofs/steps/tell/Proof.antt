@@ -2,7 +2,7 @@
 use native.Mathlib.Omega.{arith}
 use borrow.Author.Needs.{needs}
 use lib.ListN.{drop}
-use Rattle.calls.specs.declared.slot.Grant.the-variants.{Nobody, Place}
+use Rattle.rule.specs.declared.rule.Grant.the-variants.{Nobody, Place}
 use Rattle.listing.proofs.Telling.{slot-fits, told-text, wrote-inside}
 use Rattle.lines.specs.Lines.{slotLine}
 use Rattle.listing.specs.Listing.{more, slotTold}

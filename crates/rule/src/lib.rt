@@ -1,0 +1,4 @@
+// The rule of a slot on lent columns.
+
+pub mod columns;
+pub mod rule;

@@ -1,0 +1,3 @@
+// A run: as many slots as a lent log has bytes.
+
+pub mod run;
