@@ -255,7 +255,7 @@ refusedWriteRows =
 -- T with one number changed
 unfoldable pub changedWriteRows : List Row
 changedWriteRows =
-    -- a field past place N−1 that is not 0: each of the four at place 2, and an L at the last row of the array
+    -- a number behind the last place: each of the four at place 2, and an L at the last row of the array
     unwritten (ratesT (1 ∷ 1 ∷ 1 ∷ [])) (refusal 2)
     ∷ unwritten (burstsT (8 ∷ 4 ∷ 1 ∷ [])) (refusal 2)
     ∷ unwritten (needsT (1 ∷ 1 ∷ 1 ∷ [])) (refusal 2)
