@@ -20,9 +20,11 @@ picture: ## draws what slotlist prints of the basin as docs/basin.svg
 	    <../target/basin.txt >../target/basin.svg
 	@mv target/basin.svg docs/basin.svg
 
-bench: ## the product's time beside a plain Rust model's; on a machine that does nothing else
-	@tools/progress rt staticlib boundary
+bench: ## the product's time, and its instructions, beside a plain Rust model's; on a machine that does nothing else
+	@tools/progress rt staticlib justrave
 	@cd rust && cargo bench --offline --quiet --bench side_by_side
+	@echo
+	@cd rust && cargo bench --offline --quiet --bench instructions
 
 help: ## lists the targets
 	@sed -n 's/^\([a-z]*\):.*## /make \1\t/p' Makefile

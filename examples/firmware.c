@@ -12,12 +12,16 @@
 #define PLACES 5
 #define SLOTS 25
 
+/* Room for the places that there are, and no more. */
+#define STATE_WORDS JUSTRAVE_STATE_WORDS(PLACES)
+#define TABLE_NUMBERS JUSTRAVE_TABLE_NUMBERS(PLACES)
+
 enum { PUMP, PH_PROBE, CHLORINE_PROBE, HANDSET, SERVICE_LOG };
 
 static const char *const who[PLACES] = {"pump", "pH probe", "chlorine probe", "handset", "service log"};
 
-/* D, N, and for each place rate, burst, and the need's j and L; C fills the other places with 0 */
-static const uint32_t table[JUSTRAVE_TABLE_NUMBERS] = {
+/* D, N, and for each place rate, burst, and the need's j and L */
+static const uint32_t table[TABLE_NUMBERS] = {
     20, PLACES,
     4, 40, 2, 10,
     2, 20, 1, 15,
@@ -30,14 +34,14 @@ static const uint32_t table[JUSTRAVE_TABLE_NUMBERS] = {
 static const struct {
     uint64_t slot;
     size_t place;
-    uint32_t transfers;
+    uint64_t transfers;
 } due[] = {
     {0, SERVICE_LOG, 14}, {3, PUMP, 2}, {3, PH_PROBE, 1}, {3, CHLORINE_PROBE, 1},
     {3, HANDSET, 3},      {9, PUMP, 1}, {9, PH_PROBE, 1}, {12, CHLORINE_PROBE, 1},
 };
 
 /* The state is the caller's: no heap, and nothing hidden in the library. */
-static uint64_t state[JUSTRAVE_STATE_WORDS];
+static uint64_t state[STATE_WORDS];
 
 /* Says what a call was refused with, and answers whether it was. */
 static int refused(const char *call, uint64_t outcome)
@@ -58,7 +62,7 @@ static void post_due(uint64_t slot)
 {
     for (size_t i = 0; i < sizeof due / sizeof due[0]; i++) {
         if (due[i].slot == slot) {
-            refused("post", justrave_post(state, JUSTRAVE_STATE_WORDS, due[i].place, due[i].transfers));
+            refused("post", justrave_post(state, STATE_WORDS, due[i].place, due[i].transfers));
         }
     }
 }
@@ -69,7 +73,7 @@ static int turn(uint64_t slot)
     uint64_t answer[JUSTRAVE_SLOT_ANSWER];
 
     post_due(slot);
-    if (refused("slot", justrave_slot(state, JUSTRAVE_STATE_WORDS, answer, JUSTRAVE_SLOT_ANSWER))) {
+    if (refused("slot", justrave_slot(state, STATE_WORDS, answer, JUSTRAVE_SLOT_ANSWER))) {
         return 0;
     }
     printf("%llu %s\n", (unsigned long long)JUSTRAVE_STAMP(answer),
@@ -82,10 +86,23 @@ static void tell_handset(void)
 {
     uint64_t answer[JUSTRAVE_FIGURES_ANSWER];
 
-    if (!refused("figures", justrave_figures(state, JUSTRAVE_STATE_WORDS, HANDSET, 3, answer, JUSTRAVE_FIGURES_ANSWER))) {
+    if (!refused("figures", justrave_figures(state, STATE_WORDS, HANDSET, 3, answer, JUSTRAVE_FIGURES_ANSWER))) {
         printf("handset: at most %llu slots in a row go to the places above, 3 transfers are done within %llu\n",
                (unsigned long long)answer[0], (unsigned long long)answer[1]);
     }
+}
+
+/* Where the line stands, and what the service log has saved up and still has to send. */
+static void tell_standing(void)
+{
+    uint64_t line[JUSTRAVE_STANDING_ANSWER], account[JUSTRAVE_ACCOUNT_ANSWER];
+
+    if (refused("standing", justrave_standing(state, STATE_WORDS, line, JUSTRAVE_STANDING_ANSWER))
+        || refused("account", justrave_account(state, STATE_WORDS, SERVICE_LOG, account, JUSTRAVE_ACCOUNT_ANSWER))) {
+        return;
+    }
+    printf("%llu places, and slot %llu comes next\n", (unsigned long long)line[1], (unsigned long long)line[0]);
+    printf("service log: credit %llu, %llu waiting\n", (unsigned long long)account[0], (unsigned long long)account[1]);
 }
 
 /* The table's bytes, as they are kept or sent: nobody needs an encoder. A start from them makes the same state. */
@@ -93,9 +110,9 @@ static void tell_bytes(void)
 {
     uint8_t bytes[JUSTRAVE_TABLE_ROOM];
     uint64_t length[JUSTRAVE_WRITE_ANSWER];
-    uint64_t other[JUSTRAVE_STATE_WORDS];
+    uint64_t other[STATE_WORDS];
 
-    if (refused("write", justrave_write(state, JUSTRAVE_STATE_WORDS, bytes, sizeof bytes, length, JUSTRAVE_WRITE_ANSWER))) {
+    if (refused("write", justrave_write(state, STATE_WORDS, bytes, sizeof bytes, length, JUSTRAVE_WRITE_ANSWER))) {
         return;
     }
     printf("table:");
@@ -103,7 +120,7 @@ static void tell_bytes(void)
         printf(" %02X", (unsigned)bytes[i]);
     }
     printf("\n");
-    if (!refused("start", justrave_start(bytes, length[0], 0, other, JUSTRAVE_STATE_WORDS))) {
+    if (!refused("start", justrave_start(bytes, length[0], 0, other, STATE_WORDS))) {
         printf("a start from its bytes makes %s state\n", memcmp(state, other, sizeof state) == 0 ? "the same" : "another");
     }
 }
@@ -111,29 +128,30 @@ static void tell_bytes(void)
 /* What bad input gets: a number. The state stays what it was; only the words of a start that is refused are set to 0. */
 static void show_refusals(void)
 {
-    uint64_t other[JUSTRAVE_STATE_WORDS];
-    uint32_t hasty[JUSTRAVE_TABLE_NUMBERS];
+    uint64_t other[STATE_WORDS];
+    uint32_t hasty[TABLE_NUMBERS];
 
-    refused("post", justrave_post(state, JUSTRAVE_STATE_WORDS, PLACES, 1));
-    refused("post", justrave_post(state, JUSTRAVE_STATE_WORDS, PUMP, 65536));
+    refused("post", justrave_post(state, STATE_WORDS, PLACES, 1));
+    refused("post", justrave_post(state, STATE_WORDS, PUMP, 65536));
     memcpy(hasty, table, sizeof hasty);
     hasty[5] = 9; /* the pump's two transfers within 9 slots: its finish figure is 10 */
-    refused("start", justrave_start_numbers(hasty, JUSTRAVE_TABLE_NUMBERS, 0, other, JUSTRAVE_STATE_WORDS));
+    refused("start", justrave_start_numbers(hasty, TABLE_NUMBERS, 0, other, STATE_WORDS));
 }
 
 int main(void)
 {
-    if (justrave_state_words() != JUSTRAVE_STATE_WORDS) {
-        printf("header and library do not fit: a state has %zu words\n", justrave_state_words());
+    if (justrave_layout() != JUSTRAVE_LAYOUT) {
+        printf("header and library do not fit: the library's layout is %llu\n", (unsigned long long)justrave_layout());
         return 1;
     }
-    if (refused("start", justrave_start_numbers(table, JUSTRAVE_TABLE_NUMBERS, 0, state, JUSTRAVE_STATE_WORDS))) {
+    if (refused("start", justrave_start_numbers(table, TABLE_NUMBERS, 0, state, STATE_WORDS))) {
         return 1;
     }
     tell_bytes();
     tell_handset();
     for (uint64_t slot = 0; slot < SLOTS && turn(slot); slot++) {
     }
+    tell_standing();
     show_refusals();
     return 0;
 }

@@ -1,13 +1,24 @@
 /*
  * Justrave: the arbiter of a dosing unit's field line, for firmware in C.
  *
- * Link target/staticlib/libboundary.a, which `rt staticlib boundary` proves and builds (x86-64). It needs no heap, no set-up and of
+ * Link target/staticlib/libjustrave.a, which `rt staticlib justrave` proves and builds (x86-64). It needs no heap, no set-up and of
  * the C library at most memcpy and memset, and keeps nothing between two calls: all there is of an arbiter is the state that the
  * caller lends.
  *
- * A state is JUSTRAVE_STATE_WORDS words of 64 bits. They are the library's own; nothing but these functions should write them. They
- * are plain data: they may be copied, compared, and kept over a power cut, in a copy that was made between two calls. Words that
- * were damaged meanwhile are refused (JUSTRAVE_BROKEN_STATE) wherever they break a rule of the arbiter's state.
+ * A state is words of 64 bits, JUSTRAVE_STATE_WORDS(places) of them. They are the library's own, and it works on them where they lie;
+ * nothing but these functions should write them. They are plain data: they may be copied, compared, and kept over a power cut, in a copy
+ * that was made between two calls. Words that were damaged meanwhile are refused (JUSTRAVE_BROKEN_STATE) wherever they break a rule of
+ * the arbiter's state.
+ *
+ * Room, which is not in document 01 but beyond it: words have room for 1 to JUSTRAVE_MAX_PLACES places, and their length says for how
+ * many. A unit lends room for as many places as its line has, or for more, and pays in memory and in time for the room that it lends.
+ * A table whose N is above the room is refused 2, as N above the largest is in document 01. But for that the room changes no answer:
+ * zeros put behind the words, up to those of a larger room, leave every call's answer what it was, and the words what they were with
+ * the zeros behind them. That is proved.
+ *
+ * The layout. Words are for calls of one layout: a library that keeps them in another way has another number, JUSTRAVE_LAYOUT, which
+ * justrave_layout() tells of the one that was linked. Words of different layouts can be as many, so that no length tells them apart:
+ * a unit that keeps words keeps the number beside them, and where it has changed the unit starts anew.
  *
  * What the caller owes, since C cannot say it in a type:
  * - a pointer is aligned for its type and has as many elements behind it as its length says. With length 0 nothing is read or written
@@ -16,14 +27,14 @@
  * - while a call runs nobody else writes its memory, and nobody else reads what is lent to it for writing.
  *
  * Nothing else is asked. Any number, any bytes and any words may be handed in: every call has an answer. But C cuts a number down to
- * the type of its parameter before the call: a count of transfers and the numbers of a table have 32 bits, and a larger one arrives as
- * another number.
+ * the type of its parameter before the call: the numbers of a table have 32 bits, and a larger one arrives as another number.
  *
  * The stack. The library follows the System V calling convention of x86-64. It finds the stack aligned to 16 bytes, as every caller
  * leaves it, and keeps it so; and it uses the red zone, the 128 bytes below the stack pointer. An interrupt handler that runs on the same
  * stack must skip these 128 bytes before it writes, as the handlers of a process's signals do. How many bytes of stack an accepted
- * call takes, its return address and the red zone included, measured with 16 places by tests/stack: a start from bytes 8,400, one from numbers 6,080,
- * a write 5,440, a run 5,072, a slot 4,896, a lead 4,496, figures 4,480, a post 3,792. JUSTRAVE_STACK is more than each.
+ * call takes, its return address and the red zone included, measured with 16 places by tests/stack: a start from bytes 1,424, one from
+ * numbers 1,248, a write 1,088, figures 640, a run and a lead 128, a slot 112, a post, an account and a standing 96. JUSTRAVE_STACK is
+ * more than each.
  */
 #ifndef JUSTRAVE_H
 #define JUSTRAVE_H
@@ -39,28 +50,34 @@
 extern "C" {
 #endif
 
-/*
- * How many words a state has; a macro, so that a state can be declared without a heap. justrave_state_words() is the library's own
- * count. If the two differ, header and library are of different versions, and every call is refused JUSTRAVE_LENGTH. Two versions may
- * also have as many words and read them differently: words that were kept are for the library that wrote them, and after an update
- * the unit starts anew.
- */
-#define JUSTRAVE_STATE_WORDS 99
+/* The layout that this header is for. If justrave_layout() differs, header and library are of different versions. */
+#define JUSTRAVE_LAYOUT 2
 
-/* The largest N: so many places a table has room for. */
+/* The largest N: for at most so many places words have room. */
 #define JUSTRAVE_MAX_PLACES 16
 
-/* How many numbers a table has that is given as numbers: D, N and four to each place. */
-#define JUSTRAVE_TABLE_NUMBERS (2 + 4 * JUSTRAVE_MAX_PLACES)
+/*
+ * How many words a state has that has room for so many places, 1 to JUSTRAVE_MAX_PLACES; a macro, so that a state can be declared
+ * without a heap. justrave_state_words() is the library's own count.
+ */
+#define JUSTRAVE_STATE_WORDS(places) (3 + 6 * (places))
+
+/*
+ * How many numbers a table has that is given as numbers, and that is started in words with room for so many places: D, N and four to each
+ * of these places.
+ */
+#define JUSTRAVE_TABLE_NUMBERS(places) (2 + 4 * (places))
 
 /* More bytes of stack than any call was measured to take. */
-#define JUSTRAVE_STACK 10240
+#define JUSTRAVE_STACK 2048
 
 /* How many words, or for the lead how many signed numbers, each answer has. */
 #define JUSTRAVE_SLOT_ANSWER 2
 #define JUSTRAVE_FIGURES_ANSWER 2
 #define JUSTRAVE_LEAD_ANSWER 1
 #define JUSTRAVE_WRITE_ANSWER 1
+#define JUSTRAVE_ACCOUNT_ANSWER 2
+#define JUSTRAVE_STANDING_ANSWER 2
 
 /* What a run writes into its log for a slot in which nobody was granted. */
 #define JUSTRAVE_LOG_IDLE 255
@@ -75,7 +92,7 @@ extern "C" {
 #define JUSTRAVE_MAX_SLOT ((uint64_t)1 << 62)
 
 /*
- * An outcome, which every call but justrave_state_words returns. 0 is accepted. Any other is a refusal: its number, of document 01 or
+ * An outcome, which every call returns but justrave_layout and justrave_state_words. 0 is accepted. Any other is a refusal: its number, of document 01 or
  * 255, in the low 8 bits, and above them the place that the refusal names, plus 1, or 0 if it names none. Refusals 3, 4, 5 and 7 always
  * name a place, so an outcome is never equal to their names: compare JUSTRAVE_NUMBER(outcome) with a name, and the outcome itself with
  * nothing but JUSTRAVE_ACCEPTED.
@@ -89,7 +106,7 @@ enum {
 
     /* caused by the input */
     JUSTRAVE_DENOMINATOR = 1,  /* D is not 1 to 65,535 */
-    JUSTRAVE_PLACES = 2,       /* N is not 1 to 16, or a table given as numbers has one past place N-1 that is not 0 */
+    JUSTRAVE_PLACES = 2,       /* N is not 1 to 16 or is above the room, or of numbers given past place N-1 one is not 0 */
     JUSTRAVE_RATE = 3,         /* a rate is not 1 to D; names the place */
     JUSTRAVE_BURST = 4,        /* a burst is not D to 16,777,216; names the place */
     JUSTRAVE_NEED = 5,         /* a need's j is not 1 to 255, or its L not 1 to 1,073,741,824; names the place */
@@ -106,10 +123,10 @@ enum {
     /* caused by the state */
     JUSTRAVE_BACKLOG = 21,     /* more than 65,535 transfers would wait at the place */
     JUSTRAVE_SLOT_LIMIT = 22,  /* no slot number is left, or for a run too few */
-    JUSTRAVE_BROKEN_STATE = 23, /* a word does not fit its field, or the state breaks a rule: no accepted start and calls lead to it */
+    JUSTRAVE_BROKEN_STATE = 23, /* the state breaks a rule: no accepted start and calls lead to it */
 
-    /* of the boundary itself, caused by the input and tested before all else: a lent state or answer, or a table given as numbers,
-       does not have the right length */
+    /* of these calls themselves, caused by the input and tested before all else: a lent state is not as long as one with room for 1 to 16
+       places, a lent answer does not have its length, or a table given as numbers not the length for the state's room */
     JUSTRAVE_LENGTH = 255
 };
 
@@ -131,8 +148,11 @@ enum {
 #define JUSTRAVE_IS_GRANTED(answer) ((answer)[1] != 0)
 #define JUSTRAVE_GRANTED(answer) ((size_t)((answer)[1] - 1))
 
-/* How many words a state has. */
-size_t justrave_state_words(void);
+/* The number of the layout in which the library keeps a state's words. */
+uint64_t justrave_layout(void);
+
+/* How many words a state has that has room for so many places; 0 for a room that no state has. */
+size_t justrave_state_words(size_t places);
 
 /*
  * Reads a table's bytes and makes a state that stands at slot number `first`: every credit is its burst, every backlog 0. The words
@@ -142,16 +162,16 @@ size_t justrave_state_words(void);
 uint64_t justrave_start(const uint8_t *table, size_t table_length, uint64_t first, uint64_t *state, size_t state_length);
 
 /*
- * The same for a table given as numbers, JUSTRAVE_TABLE_NUMBERS of them: D, N, then rate, burst and the need's j and L of each of 16
- * places. The four numbers of every place past N-1 are 0, or the table is refused 2. Nobody needs an encoder for a table's bytes: start it
- * from its numbers, and justrave_write writes them. Refused 255; then 1 and 2; then 3, 4 and 5 of each place before the next; then 6, 7
- * and 12. The words are then all 0, but for 255, which changes nothing.
+ * The same for a table given as numbers, JUSTRAVE_TABLE_NUMBERS(places) of them for words with room for so many places: D, N, then rate,
+ * burst and the need's j and L of each place. The four numbers of every place past N-1 are 0, or the table is refused 2. Nobody needs an
+ * encoder for a table's bytes: start it from its numbers, and justrave_write writes them. Refused 255; then 1 and 2; then 3, 4 and 5 of
+ * each place before the next; then 6, 7 and 12. The words are then all 0, but for 255, which changes nothing.
  */
 uint64_t justrave_start_numbers(const uint32_t *numbers, size_t numbers_length, uint64_t first, uint64_t *state,
                                 size_t state_length);
 
 /* Adds `count` transfers (0 is allowed) to a place's backlog. Refused 255, 23, 11, 21. */
-uint64_t justrave_post(uint64_t *state, size_t state_length, size_t place, uint32_t count);
+uint64_t justrave_post(uint64_t *state, size_t state_length, size_t place, uint64_t count);
 
 /*
  * Does one slot. The answer is the slot's stamp, and the place that was granted plus 1, or 0 if the slot is idle. Refused 255, 23,
@@ -169,7 +189,7 @@ uint64_t justrave_run(uint64_t *state, size_t state_length, uint8_t *log, size_t
  * Answers two numbers of slots. The wait: at most so many slots in a row go to the places above. The finish figure: where at least
  * `transfers`, 1 to 255, wait at the place, as many are granted to it within that figure. Refused 255, 23, 11, 5.
  */
-uint64_t justrave_figures(const uint64_t *state, size_t state_length, size_t place, uint32_t transfers, uint64_t *answer,
+uint64_t justrave_figures(const uint64_t *state, size_t state_length, size_t place, uint64_t transfers, uint64_t *answer,
                           size_t answer_length);
 
 /*
@@ -185,6 +205,12 @@ uint64_t justrave_lead(const uint64_t *state, size_t state_length, size_t place,
  */
 uint64_t justrave_write(const uint64_t *state, size_t state_length, uint8_t *buffer, size_t buffer_length, uint64_t *answer,
                         size_t answer_length);
+
+/* Answers the credit of a place, and how many transfers wait there. Refused 255, 23, 11. */
+uint64_t justrave_account(const uint64_t *state, size_t state_length, size_t place, uint64_t *answer, size_t answer_length);
+
+/* Answers the slot number, which is the stamp of the next slot, and N. Refused 255, 23. */
+uint64_t justrave_standing(const uint64_t *state, size_t state_length, uint64_t *answer, size_t answer_length);
 
 #ifdef __cplusplus
 }

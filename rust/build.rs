@@ -7,7 +7,7 @@ const VARIABLE: &str = "JUSTRAVE_LIB_DIR";
 
 fn main() {
     let folder = library_folder();
-    let library = folder.join("libboundary.a");
+    let library = folder.join("libjustrave.a");
     println!("cargo:rerun-if-env-changed={VARIABLE}");
     println!("cargo:rerun-if-changed={}", library.display());
     if !library.is_file() {
@@ -15,7 +15,7 @@ fn main() {
         process::exit(1);
     }
     println!("cargo:rustc-link-search=native={}", folder.display());
-    println!("cargo:rustc-link-lib=static=boundary");
+    println!("cargo:rustc-link-lib=static=justrave");
 }
 
 /// The folder that the variable names, or the one that `rt staticlib` writes to.
@@ -26,6 +26,6 @@ fn library_folder() -> PathBuf {
 
 fn explain(library: &Path) {
     eprintln!("the proved library is not there: {}", library.display());
-    eprintln!("Build it in the repository's root folder, with the Rattle kit's rt on the PATH: rt staticlib boundary");
+    eprintln!("Build it in the repository's root folder, with the Rattle kit's rt on the PATH: rt staticlib justrave");
     eprintln!("If it lies elsewhere, let {VARIABLE} name its folder, as an absolute path.");
 }

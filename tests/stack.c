@@ -10,7 +10,9 @@
 
 #include "justrave.h"
 
-#define PLACES 16
+#define PLACES JUSTRAVE_MAX_PLACES
+#define WORDS JUSTRAVE_STATE_WORDS(PLACES)
+#define NUMBERS JUSTRAVE_TABLE_NUMBERS(PLACES)
 #define STACK_BYTES 65536
 #define PAINT 0xA5
 
@@ -18,52 +20,60 @@ static unsigned char stack[STACK_BYTES];
 static ucontext_t caller, callee;
 static unsigned char *top;
 
-static uint32_t numbers[JUSTRAVE_TABLE_NUMBERS];
+static uint32_t numbers[NUMBERS];
 static uint8_t bytes[JUSTRAVE_TABLE_ROOM];
 static uint8_t log_bytes[JUSTRAVE_MAX_LOG];
-static uint64_t state[JUSTRAVE_STATE_WORDS];
+static uint64_t state[WORDS];
 static uint64_t answer[2], length[1];
 static int64_t lead[1];
 
 static uint64_t start_numbers(void)
 {
-    return justrave_start_numbers(numbers, JUSTRAVE_TABLE_NUMBERS, 0, state, JUSTRAVE_STATE_WORDS);
+    return justrave_start_numbers(numbers, NUMBERS, 0, state, WORDS);
 }
 static uint64_t write_bytes(void)
 {
-    return justrave_write(state, JUSTRAVE_STATE_WORDS, bytes, sizeof bytes, length, 1);
+    return justrave_write(state, WORDS, bytes, sizeof bytes, length, 1);
 }
 static uint64_t start(void)
 {
-    return justrave_start(bytes, length[0], 0, state, JUSTRAVE_STATE_WORDS);
+    return justrave_start(bytes, length[0], 0, state, WORDS);
 }
 static uint64_t post(void)
 {
-    return justrave_post(state, JUSTRAVE_STATE_WORDS, PLACES - 1, 3);
+    return justrave_post(state, WORDS, PLACES - 1, 3);
 }
 static uint64_t slot(void)
 {
-    return justrave_slot(state, JUSTRAVE_STATE_WORDS, answer, 2);
+    return justrave_slot(state, WORDS, answer, 2);
 }
 static uint64_t run(void)
 {
-    return justrave_run(state, JUSTRAVE_STATE_WORDS, log_bytes, sizeof log_bytes);
+    return justrave_run(state, WORDS, log_bytes, sizeof log_bytes);
 }
 static uint64_t figures(void)
 {
-    return justrave_figures(state, JUSTRAVE_STATE_WORDS, PLACES - 1, 255, answer, 2);
+    return justrave_figures(state, WORDS, PLACES - 1, 255, answer, 2);
+}
+static uint64_t account(void)
+{
+    return justrave_account(state, WORDS, PLACES - 1, answer, 2);
+}
+static uint64_t standing(void)
+{
+    return justrave_standing(state, WORDS, answer, 2);
 }
 static uint64_t lead_of(void)
 {
-    return justrave_lead(state, JUSTRAVE_STATE_WORDS, PLACES - 1, log_bytes, sizeof log_bytes, lead, 1);
+    return justrave_lead(state, WORDS, PLACES - 1, log_bytes, sizeof log_bytes, lead, 1);
 }
 
 static const struct {
     const char *name;
     uint64_t (*make)(void);
 } calls[] = {
-    {"start_numbers", start_numbers}, {"write", write_bytes}, {"start", start},     {"post", post},
-    {"slot", slot},                   {"run", run},           {"figures", figures}, {"lead", lead_of},
+    {"start_numbers", start_numbers}, {"write", write_bytes}, {"start", start},     {"post", post},           {"slot", slot},
+    {"run", run},                     {"figures", figures},   {"lead", lead_of},    {"account", account}, {"standing", standing},
 };
 
 static uint64_t (*present)(void);

@@ -1,7 +1,8 @@
 //! The arbiter and its calls.
 
-use core::fmt;
+use core::{fmt, slice};
 
+use crate::table::MAX_PLACES;
 use crate::{sys, Refusal, Slots, Table, Transfers};
 
 /// An arbiter's state: its table, its credits and backlogs, and the number of the slot that comes next.
@@ -17,9 +18,37 @@ use crate::{sys, Refusal, Slots, Table, Transfers};
 /// assert_ne!(one, other);
 /// # Ok::<(), justrave::Refusal>(())
 /// ```
+///
+/// # Room
+///
+/// An arbiter has room for `ROOM` places, 16 where nothing is said. A line with fewer places can do with less, and pays in memory and
+/// in time for the places that there is room for. A table with more places than that is refused 2; but for this the room changes no
+/// answer. Document 01 knows the largest number of places alone: room is an addition to it.
+///
+/// ```
+/// use justrave::{Arbiter, Slots};
+///
+/// let one_place = [4, 1, 1, 8, 1, 4];
+/// let two_places = [4, 2, 1, 8, 1, 4, 1, 4, 1, 7];
+/// assert!(Arbiter::<1>::start_in_room(&one_place, Slots(0)).is_ok());
+/// assert_eq!(Arbiter::<1>::start_in_room(&two_places, Slots(0)).unwrap_err().number, 2);
+/// assert_eq!((size_of::<Arbiter<1>>(), size_of::<Arbiter>()), (72, 792));
+/// ```
+///
+/// There is no arbiter without room for a place, and none with room for more than 16:
+///
+/// ```compile_fail,E0080
+/// let line = justrave::Arbiter::<0>::start_in_room(&[4, 1, 1, 8, 1, 4], justrave::Slots(0));
+/// ```
+///
+/// ```compile_fail,E0080
+/// let line = justrave::Arbiter::<17>::start_in_room(&[4, 1, 1, 8, 1, 4], justrave::Slots(0));
+/// ```
 #[derive(Clone, PartialEq, Eq)]
-pub struct Arbiter {
-    words: [u64; Arbiter::STATE_WORDS],
+#[repr(C)]
+pub struct Arbiter<const ROOM: usize = MAX_PLACES> {
+    head: [u64; 3],
+    places: [[u64; 6]; ROOM],
 }
 
 /// How an accepted slot ended. Both ways tell the slot's stamp.
@@ -40,9 +69,26 @@ pub struct Figures {
     pub finish: Slots,
 }
 
+/// What a place has saved up, and what waits there.
+#[derive(Clone, Copy, Debug, PartialEq, Eq, Hash)]
+pub struct Account {
+    /// Its credit. A transfer costs the table's denominator.
+    pub credit: u64,
+    /// Its transfers waiting.
+    pub backlog: Transfers,
+}
+
+/// Where a line stands.
+#[derive(Clone, Copy, Debug, PartialEq, Eq, Hash)]
+pub struct Standing {
+    /// The number of the slot that comes next.
+    pub slot: Slots,
+    /// How many places its table has.
+    pub places: usize,
+}
+
+/// What does not depend on the room, and a start with room for 16 places.
 impl Arbiter {
-    /// How many words a state has.
-    pub const STATE_WORDS: usize = 99;
     /// The longest log, and so the most slots of one [`run`](Arbiter::run).
     pub const MAX_LOG: usize = 65_536;
     /// The highest slot number. No slot is done at it.
@@ -50,9 +96,10 @@ impl Arbiter {
     /// What a log holds for an idle slot.
     pub const LOG_IDLE: u8 = 255;
     /// Room for the bytes of any table: at most 5 for each number, D, N and 4 for each of 16 places.
-    pub const TABLE_ROOM: usize = 5 * Table::NUMBERS;
+    pub const TABLE_ROOM: usize = 5 * Table::<MAX_PLACES>::NUMBERS;
 
-    /// Reads a table's bytes and stands at slot number `first`: every credit is its burst, and nothing waits.
+    /// Reads a table's bytes and stands at slot number `first`: every credit is its burst, and nothing waits. The arbiter has room
+    /// for 16 places; [`start_in_room`](Arbiter::start_in_room) makes one with room for fewer.
     ///
     /// # Errors
     ///
@@ -65,14 +112,44 @@ impl Arbiter {
     /// assert_eq!(Arbiter::start(&[4, 1, 1], Slots(0)).unwrap_err().number, 8);
     /// ```
     pub fn start(table: &[u8], first: Slots) -> Result<Arbiter, Refusal> {
-        let mut words = [0; Arbiter::STATE_WORDS];
-        // SAFETY: both pointers have their lengths behind them, and the words are a local of their own.
-        let outcome =
-            unsafe { sys::justrave_start(table.as_ptr(), table.len(), first.0, words.as_mut_ptr(), words.len()) };
-        Refusal::check(outcome).map(|()| Arbiter { words })
+        Arbiter::start_in_room(table, first)
+    }
+}
+
+impl<const ROOM: usize> Arbiter<ROOM> {
+    /// How many words a state has: 3, and 6 for each place that there is room for.
+    pub const STATE_WORDS: usize = {
+        assert!(1 <= ROOM && ROOM <= MAX_PLACES, "an arbiter has room for 1 to 16 places");
+        size_of::<Self>() / size_of::<u64>()
+    };
+
+    /// Words that are no state: every call on them but a start is refused 23.
+    const CLEARED: Self = Arbiter { head: [0; 3], places: [[0; 6]; ROOM] };
+
+    /// [`start`](Arbiter::start) with room for `ROOM` places.
+    ///
+    /// # Errors
+    ///
+    /// Those of [`start`](Arbiter::start), and 2 where the table has more places than there is room for.
+    ///
+    /// ```
+    /// use justrave::{Arbiter, Refusal, Slots};
+    ///
+    /// /// A line of two places, and never more.
+    /// fn line_of(table: &[u8]) -> Result<Arbiter<2>, Refusal> {
+    ///     Arbiter::start_in_room(table, Slots(0))
+    /// }
+    /// assert!(line_of(&[4, 2, 1, 8, 1, 4, 1, 4, 1, 7]).is_ok());
+    /// assert_eq!(line_of(&[4, 3]).unwrap_err().number, 2);
+    /// ```
+    pub fn start_in_room(table: &[u8], first: Slots) -> Result<Arbiter<ROOM>, Refusal> {
+        let mut made = Self::CLEARED;
+        made.restart(table, first)?;
+        Ok(made)
     }
 
-    /// Starts a table given as numbers, and stands at slot number `first` as a start from its bytes does.
+    /// Starts a table given as numbers, and stands at slot number `first` as a start from its bytes does. The arbiter has the room
+    /// that the table has.
     ///
     /// # Errors
     ///
@@ -89,14 +166,64 @@ impl Arbiter {
     /// let refusal = Arbiter::start_table(&Table::of(4, &[pump, hasty]), Slots(0)).unwrap_err();
     /// assert_eq!((refusal.number, refusal.place), (7, Some(1)));
     /// ```
-    pub fn start_table(table: &Table, first: Slots) -> Result<Arbiter, Refusal> {
+    pub fn start_table(table: &Table<ROOM>, first: Slots) -> Result<Arbiter<ROOM>, Refusal> {
+        let mut made = Self::CLEARED;
+        made.restart_table(table, first)?;
+        Ok(made)
+    }
+
+    /// A start from a table's bytes in this arbiter's own memory: what it was is gone, and no state is copied.
+    ///
+    /// # Errors
+    ///
+    /// Those of [`start_in_room`](Arbiter::start_in_room). Unlike any other call that is refused, it does not leave the state as it was:
+    /// every word is 0, and every call but a restart is refused 23. Start another arbiter where the old state may still be wanted.
+    ///
+    /// ```
+    /// use justrave::{Arbiter, Slots, Transfers};
+    ///
+    /// let mut line = Arbiter::start(&[4, 1, 1, 8, 1, 4], Slots(0))?;
+    /// line.post(0, Transfers(2))?;
+    /// line.restart(&[4, 2, 1, 8, 1, 4, 1, 4, 1, 7], Slots(70))?;
+    /// assert_eq!(line, Arbiter::start(&[4, 2, 1, 8, 1, 4, 1, 4, 1, 7], Slots(70))?);
+    ///
+    /// assert_eq!(line.restart(&[4, 1, 1], Slots(0)).unwrap_err().number, 8);
+    /// assert_eq!(line.slot().unwrap_err().number, 23);
+    /// # Ok::<(), justrave::Refusal>(())
+    /// ```
+    pub fn restart(&mut self, table: &[u8], first: Slots) -> Result<(), Refusal> {
+        let words = self.words_mut();
+        // SAFETY: both slices have their lengths behind them, and the words are borrowed exclusively.
+        let outcome =
+            unsafe { sys::justrave_start(table.as_ptr(), table.len(), first.0, words.as_mut_ptr(), words.len()) };
+        Refusal::check(outcome)
+    }
+
+    /// A start from a table given as numbers in this arbiter's own memory.
+    ///
+    /// # Errors
+    ///
+    /// Those of [`start_table`](Arbiter::start_table); every word is then 0, as [`restart`](Arbiter::restart) says.
+    ///
+    /// ```
+    /// use justrave::{Arbiter, Requestor, Slots, Table, Transfers};
+    ///
+    /// let pump = Requestor { rate: 1, burst: 8, need: Transfers(1), within: Slots(4) };
+    /// let table = Table { denominator: 4, count: 1, requestors: [pump] };
+    /// let mut line = Arbiter::start_table(&table, Slots(0))?;
+    /// line.slot()?;
+    /// line.restart_table(&table, Slots(0))?;
+    /// assert_eq!(line.standing()?.slot, Slots(0));
+    /// # Ok::<(), justrave::Refusal>(())
+    /// ```
+    pub fn restart_table(&mut self, table: &Table<ROOM>, first: Slots) -> Result<(), Refusal> {
         let numbers = table.numbers();
-        let mut words = [0; Arbiter::STATE_WORDS];
-        // SAFETY: numbers and words are locals of their own, each with its length behind it.
+        let (numbers, words) = (numbers.as_slice(), self.words_mut());
+        // SAFETY: both slices have their lengths behind them; the numbers are a local's, and the words are borrowed exclusively.
         let outcome = unsafe {
             sys::justrave_start_numbers(numbers.as_ptr(), numbers.len(), first.0, words.as_mut_ptr(), words.len())
         };
-        Refusal::check(outcome).map(|()| Arbiter { words })
+        Refusal::check(outcome)
     }
 
     /// Adds transfers (0 is allowed) to those that wait at a place.
@@ -115,8 +242,9 @@ impl Arbiter {
     /// # Ok::<(), justrave::Refusal>(())
     /// ```
     pub fn post(&mut self, place: usize, count: Transfers) -> Result<(), Refusal> {
-        // SAFETY: the words are this arbiter's own, and it is lent whole.
-        let outcome = unsafe { sys::justrave_post(self.words.as_mut_ptr(), self.words.len(), place, count.0) };
+        let words = self.words_mut();
+        // SAFETY: the words have their length behind them, and are borrowed exclusively.
+        let outcome = unsafe { sys::justrave_post(words.as_mut_ptr(), words.len(), place, count.0) };
         Refusal::check(outcome)
     }
 
@@ -136,10 +264,9 @@ impl Arbiter {
     /// # Ok::<(), justrave::Refusal>(())
     /// ```
     pub fn slot(&mut self) -> Result<SlotAnswer, Refusal> {
-        let mut answer = [0; 2];
-        // SAFETY: the words are this arbiter's own, and the answer is a local beside them.
-        let outcome =
-            unsafe { sys::justrave_slot(self.words.as_mut_ptr(), self.words.len(), answer.as_mut_ptr(), answer.len()) };
+        let (words, mut answer) = (self.words_mut(), [0; 2]);
+        // SAFETY: both have their lengths behind them; the words are borrowed exclusively, and the answer is a local.
+        let outcome = unsafe { sys::justrave_slot(words.as_mut_ptr(), words.len(), answer.as_mut_ptr(), answer.len()) };
         Refusal::check(outcome)?;
         let [stamp, granted] = answer;
         Ok(match granted.checked_sub(1) {
@@ -166,9 +293,9 @@ impl Arbiter {
     /// # Ok::<(), justrave::Refusal>(())
     /// ```
     pub fn run(&mut self, log: &mut [u8]) -> Result<(), Refusal> {
-        // SAFETY: two exclusive borrows do not overlap, and each has its length behind it.
-        let outcome =
-            unsafe { sys::justrave_run(self.words.as_mut_ptr(), self.words.len(), log.as_mut_ptr(), log.len()) };
+        let words = self.words_mut();
+        // SAFETY: both slices have their lengths behind them, and two exclusive borrows do not overlap.
+        let outcome = unsafe { sys::justrave_run(words.as_mut_ptr(), words.len(), log.as_mut_ptr(), log.len()) };
         Refusal::check(outcome)
     }
 
@@ -187,17 +314,10 @@ impl Arbiter {
     /// # Ok::<(), justrave::Refusal>(())
     /// ```
     pub fn figures(&self, place: usize, transfers: Transfers) -> Result<Figures, Refusal> {
-        let mut answer = [0; 2];
-        // SAFETY: the words are only read, and the answer is a local beside them.
+        let (words, mut answer) = (self.words(), [0; 2]);
+        // SAFETY: both have their lengths behind them; the words are only read, and the answer is a local beside them.
         let outcome = unsafe {
-            sys::justrave_figures(
-                self.words.as_ptr(),
-                self.words.len(),
-                place,
-                transfers.0,
-                answer.as_mut_ptr(),
-                answer.len(),
-            )
+            sys::justrave_figures(words.as_ptr(), words.len(), place, transfers.0, answer.as_mut_ptr(), answer.len())
         };
         Refusal::check(outcome)?;
         let [wait, finish] = answer.map(Slots);
@@ -220,12 +340,12 @@ impl Arbiter {
     /// # Ok::<(), justrave::Refusal>(())
     /// ```
     pub fn lead(&self, place: usize, log: &[u8]) -> Result<i64, Refusal> {
-        let mut answer = [0; 1];
-        // SAFETY: words and log are only read, and the answer is a local beside them.
+        let (words, mut answer) = (self.words(), [0; 1]);
+        // SAFETY: all three have their lengths behind them; words and log are only read, and the answer is a local beside them.
         let outcome = unsafe {
             sys::justrave_lead(
-                self.words.as_ptr(),
-                self.words.len(),
+                words.as_ptr(),
+                words.len(),
                 place,
                 log.as_ptr(),
                 log.len(),
@@ -254,12 +374,13 @@ impl Arbiter {
     /// # Ok::<(), justrave::Refusal>(())
     /// ```
     pub fn write_table(&self, buffer: &mut [u8]) -> Result<usize, Refusal> {
-        let mut answer = [0; 1];
-        // SAFETY: the words are only read; the buffer is borrowed exclusively, and the answer is a local.
+        let (words, mut answer) = (self.words(), [0; 1]);
+        // SAFETY: all three have their lengths behind them; the words are only read, the buffer is borrowed exclusively, and the answer
+        // is a local.
         let outcome = unsafe {
             sys::justrave_write(
-                self.words.as_ptr(),
-                self.words.len(),
+                words.as_ptr(),
+                words.len(),
                 buffer.as_mut_ptr(),
                 buffer.len(),
                 answer.as_mut_ptr(),
@@ -269,33 +390,101 @@ impl Arbiter {
         Refusal::check(outcome).map(|()| answer[0] as usize)
     }
 
-    /// The words, to be kept somewhere, over a power cut for example. What each means is the library's own matter.
-    pub fn words(&self) -> &[u64; Arbiter::STATE_WORDS] {
-        &self.words
+    /// The credit of a place, and how many transfers wait there.
+    ///
+    /// # Errors
+    ///
+    /// 23, 11.
+    ///
+    /// ```
+    /// use justrave::{Account, Arbiter, Slots, Transfers};
+    ///
+    /// let mut line = Arbiter::start(&[4, 1, 1, 8, 1, 4], Slots(0))?;
+    /// line.post(0, Transfers(3))?;
+    /// line.slot()?;
+    /// assert_eq!(line.account(0)?, Account { credit: 5, backlog: Transfers(2) });
+    /// assert_eq!(line.account(1).unwrap_err().number, 11);
+    /// # Ok::<(), justrave::Refusal>(())
+    /// ```
+    pub fn account(&self, place: usize) -> Result<Account, Refusal> {
+        let (words, mut answer) = (self.words(), [0; 2]);
+        // SAFETY: both have their lengths behind them; the words are only read, and the answer is a local beside them.
+        let outcome =
+            unsafe { sys::justrave_account(words.as_ptr(), words.len(), place, answer.as_mut_ptr(), answer.len()) };
+        Refusal::check(outcome)?;
+        let [credit, backlog] = answer;
+        Ok(Account { credit, backlog: Transfers(backlog) })
     }
 
-    /// An arbiter from words that were kept. Nothing is tested here: each call tests its state, and one that breaks a rule is
-    /// refused 23. The words are for the version of the library that wrote them: after an update, start anew.
+    /// The number of the slot that comes next, and how many places there are.
+    ///
+    /// # Errors
+    ///
+    /// 23.
+    ///
+    /// ```
+    /// use justrave::{Arbiter, Slots, Standing};
+    ///
+    /// let mut line = Arbiter::start(&[4, 1, 1, 8, 1, 4], Slots(70))?;
+    /// line.slot()?;
+    /// assert_eq!(line.standing()?, Standing { slot: Slots(71), places: 1 });
+    /// # Ok::<(), justrave::Refusal>(())
+    /// ```
+    pub fn standing(&self) -> Result<Standing, Refusal> {
+        let (words, mut answer) = (self.words(), [0; 2]);
+        // SAFETY: both have their lengths behind them; the words are only read, and the answer is a local beside them.
+        let outcome = unsafe { sys::justrave_standing(words.as_ptr(), words.len(), answer.as_mut_ptr(), answer.len()) };
+        Refusal::check(outcome)?;
+        let [slot, places] = answer;
+        Ok(Standing { slot: Slots(slot), places: places as usize })
+    }
+
+    /// The words, [`STATE_WORDS`](Arbiter::STATE_WORDS) of them, to be kept somewhere, over a power cut for example. What each means is
+    /// the library's own matter; keep [`layout`](crate::layout)'s number beside them.
+    pub fn words(&self) -> &[u64] {
+        // SAFETY: a struct of `repr(C)` that holds arrays of u64 and nothing else is as many u64 in a row as its size says. All of it
+        // is borrowed for as long as the slice is.
+        unsafe { slice::from_raw_parts((self as *const Self).cast(), Self::STATE_WORDS) }
+    }
+
+    /// The same, for a call to write.
+    fn words_mut(&mut self) -> &mut [u64] {
+        // SAFETY: as in `words`; and any u64 may stand in any of them.
+        unsafe { slice::from_raw_parts_mut((self as *mut Self).cast(), Self::STATE_WORDS) }
+    }
+
+    /// An arbiter from words that were kept; none where they are not as many as an arbiter with this room has. Nothing else is tested
+    /// here: each call tests its state, and one that breaks a rule is refused 23. The words are for the layout in which they were
+    /// written: if [`layout`](crate::layout) is another now, start anew.
     ///
     /// ```
     /// use justrave::{Arbiter, Slots, Transfers};
     ///
     /// let mut line = Arbiter::start(&[4, 1, 1, 8, 1, 4], Slots(0))?;
-    /// let kept = *line.words();
+    /// let (layout, kept) = (justrave::layout(), line.words().to_vec());
     /// line.post(0, Transfers(1))?;
-    /// assert_eq!(Arbiter::from_words(kept).slot()?, justrave::SlotAnswer::Idle(Slots(0)));
     ///
-    /// let damaged = [u64::MAX; Arbiter::STATE_WORDS];
-    /// assert_eq!(Arbiter::from_words(damaged).slot().unwrap_err().number, 23);
+    /// assert_eq!(layout, justrave::layout());
+    /// let mut again: Arbiter = Arbiter::from_words(&kept).expect("as many words as there is room for");
+    /// assert_eq!(again.slot()?, justrave::SlotAnswer::Idle(Slots(0)));
+    ///
+    /// let mut damaged = Arbiter::<1>::from_words(&[u64::MAX; 9]).expect("as many words as there is room for");
+    /// assert_eq!(damaged.slot().unwrap_err().number, 23);
+    /// assert_eq!(Arbiter::<2>::from_words(&[u64::MAX; 9]), None);
     /// # Ok::<(), justrave::Refusal>(())
     /// ```
-    pub fn from_words(words: [u64; Arbiter::STATE_WORDS]) -> Arbiter {
-        Arbiter { words }
+    pub fn from_words(words: &[u64]) -> Option<Arbiter<ROOM>> {
+        if words.len() != Self::STATE_WORDS {
+            return None;
+        }
+        let mut made = Self::CLEARED;
+        made.words_mut().copy_from_slice(words);
+        Some(made)
     }
 }
 
 /// The words mean nothing to a reader.
-impl fmt::Debug for Arbiter {
+impl<const ROOM: usize> fmt::Debug for Arbiter<ROOM> {
     fn fmt(&self, to: &mut fmt::Formatter<'_>) -> fmt::Result {
         to.debug_struct("Arbiter").finish_non_exhaustive()
     }

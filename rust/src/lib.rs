@@ -17,18 +17,22 @@
 //! # Ok::<(), justrave::Refusal>(())
 //! ```
 //!
-//! A call that is turned down changes nothing and says why with a number, with the place where one place is at fault, and with
-//! what caused it, the call's own input or the state ([`Refusal`]).
+//! A call that is turned down changes nothing ([`Arbiter::restart`] alone then leaves no state) and says why with a number, with the
+//! place where one place is at fault, and with what caused it, the call's own input or the state ([`Refusal`]).
 //!
 //! # Linking
 //!
-//! The library is `libboundary.a`, which `rt staticlib boundary` proves and builds. The build script looks for it in the
+//! The library is `libjustrave.a`, which `rt staticlib justrave` proves and builds. The build script looks for it in the
 //! repository's `target/staticlib`, or in the folder that the environment variable `JUSTRAVE_LIB_DIR` names.
 //!
-//! No heap is used and no standard library: an [`Arbiter`] is [`Arbiter::STATE_WORDS`] words of its owner's memory.
+//! No heap is used and no standard library: an [`Arbiter`] is [`Arbiter::STATE_WORDS`] words of its owner's memory, which the library
+//! works on in place. How many those are is for the owner to say: an `Arbiter<5>` has room for five places, an `Arbiter` for 16.
 
 #![no_std]
 #![warn(missing_docs)]
+
+#[cfg(not(target_pointer_width = "64"))]
+compile_error!("justrave is built for machines whose sizes have 64 bits");
 
 mod arbiter;
 mod refusal;
@@ -36,7 +40,18 @@ pub mod sys;
 mod table;
 mod units;
 
-pub use arbiter::{Arbiter, Figures, SlotAnswer};
+pub use arbiter::{Account, Arbiter, Figures, SlotAnswer, Standing};
 pub use refusal::{Cause, Refusal};
 pub use table::{Requestor, Table};
 pub use units::{Slots, Transfers};
+
+/// The number of the layout in which the linked library keeps a state's words. Words that are kept are for the layout in which they
+/// were written, and as many words can be those of another layout: keep this number beside them, and where it has changed start anew.
+///
+/// ```
+/// assert_eq!(justrave::layout(), 2);
+/// ```
+pub fn layout() -> u64 {
+    // SAFETY: the function takes nothing and touches no memory.
+    unsafe { sys::justrave_layout() }
+}

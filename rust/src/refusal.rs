@@ -11,7 +11,8 @@ pub enum Cause {
     State,
 }
 
-/// Why a call was turned down. A call that is turned down has changed nothing.
+/// Why a call was turned down. A call that is turned down has changed nothing, but for a [`restart`](crate::Arbiter::restart), which
+/// then leaves no state.
 ///
 /// ```
 /// use justrave::{Arbiter, Cause, Refusal, Slots};
@@ -47,7 +48,7 @@ impl Refusal {
     pub fn meaning(&self) -> &'static str {
         match self.number {
             1 => "D is outside its limits",
-            2 => "the number of places is outside its limits, or a row past the last place is not 0",
+            2 => "the number of places is outside its limits or above the room, or a row past the last place is not 0",
             3 => "a rate is outside its limits",
             4 => "a burst is outside its limits",
             5 => "a need is outside its limits",

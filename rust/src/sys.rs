@@ -7,7 +7,9 @@
 #![allow(missing_docs)]
 
 extern "C" {
-    pub fn justrave_state_words() -> usize;
+    pub fn justrave_layout() -> u64;
+
+    pub fn justrave_state_words(places: usize) -> usize;
 
     pub fn justrave_start(
         table: *const u8,
@@ -25,7 +27,7 @@ extern "C" {
         state_length: usize,
     ) -> u64;
 
-    pub fn justrave_post(state: *mut u64, state_length: usize, place: usize, count: u32) -> u64;
+    pub fn justrave_post(state: *mut u64, state_length: usize, place: usize, count: u64) -> u64;
 
     pub fn justrave_slot(state: *mut u64, state_length: usize, answer: *mut u64, answer_length: usize) -> u64;
 
@@ -35,7 +37,7 @@ extern "C" {
         state: *const u64,
         state_length: usize,
         place: usize,
-        transfers: u32,
+        transfers: u64,
         answer: *mut u64,
         answer_length: usize,
     ) -> u64;
@@ -58,4 +60,14 @@ extern "C" {
         answer: *mut u64,
         answer_length: usize,
     ) -> u64;
+
+    pub fn justrave_account(
+        state: *const u64,
+        state_length: usize,
+        place: usize,
+        answer: *mut u64,
+        answer_length: usize,
+    ) -> u64;
+
+    pub fn justrave_standing(state: *const u64, state_length: usize, answer: *mut u64, answer_length: usize) -> u64;
 }

@@ -13,7 +13,7 @@ pub struct Slots(pub u64);
 
 /// A count of transfers: work for the line.
 #[derive(Clone, Copy, Debug, Default, PartialEq, Eq, PartialOrd, Ord, Hash)]
-pub struct Transfers(pub u32);
+pub struct Transfers(pub u64);
 
 impl fmt::Display for Slots {
     fn fmt(&self, to: &mut fmt::Formatter<'_>) -> fmt::Result {

@@ -1,15 +1,25 @@
-//! The library's functions as they are, without the wrapper: lent memory of the wrong length, what a refused call leaves alone, and
-//! that nothing is written beside what was lent.
+//! The library's functions as they are, without the wrapper: lent memory of every length, what a refused call leaves alone, and that
+//! nothing is written beside what was lent.
 
 use justrave::sys;
-use justrave::Arbiter;
 
-const WORDS: usize = Arbiter::STATE_WORDS;
+/// The most places that a state has room for.
+const MOST: usize = 16;
+/// How many words a state has that has room for so many places.
+const fn words_for(places: usize) -> usize {
+    3 + 6 * places
+}
+/// How many numbers a table has that has room for so many places.
+const fn numbers_for(places: usize) -> usize {
+    2 + 4 * places
+}
+/// Table T has two places; there is room for one more.
+const ROOM: usize = 3;
+const WORDS: usize = words_for(ROOM);
+const NUMBERS: usize = numbers_for(ROOM);
 /// What stands in memory that must not be written.
 const UNTOUCHED: u64 = 0xA5A5_A5A5_A5A5_A5A5;
 const T: [u8; 10] = [4, 2, 1, 8, 1, 4, 1, 4, 1, 7];
-/// D, N and four to each of 16 places.
-const NUMBERS: usize = 66;
 
 // The functions over slices. SAFETY of each: a slice has its length behind it, and exclusive borrows do not overlap.
 
@@ -21,7 +31,7 @@ fn start_numbers(numbers: &[u32], first: u64, state: &mut [u64]) -> u64 {
     unsafe { sys::justrave_start_numbers(numbers.as_ptr(), numbers.len(), first, state.as_mut_ptr(), state.len()) }
 }
 
-fn post(state: &mut [u64], place: usize, count: u32) -> u64 {
+fn post(state: &mut [u64], place: usize, count: u64) -> u64 {
     unsafe { sys::justrave_post(state.as_mut_ptr(), state.len(), place, count) }
 }
 
@@ -33,7 +43,7 @@ fn run(state: &mut [u64], log: &mut [u8]) -> u64 {
     unsafe { sys::justrave_run(state.as_mut_ptr(), state.len(), log.as_mut_ptr(), log.len()) }
 }
 
-fn figures(state: &[u64], place: usize, j: u32, answer: &mut [u64]) -> u64 {
+fn figures(state: &[u64], place: usize, j: u64, answer: &mut [u64]) -> u64 {
     unsafe { sys::justrave_figures(state.as_ptr(), state.len(), place, j, answer.as_mut_ptr(), answer.len()) }
 }
 
@@ -49,6 +59,14 @@ fn write(state: &[u64], buffer: &mut [u8], answer: &mut [u64]) -> u64 {
     unsafe {
         sys::justrave_write(state.as_ptr(), state.len(), buffer.as_mut_ptr(), buffer.len(), answer, answer_length)
     }
+}
+
+fn account(state: &[u64], place: usize, answer: &mut [u64]) -> u64 {
+    unsafe { sys::justrave_account(state.as_ptr(), state.len(), place, answer.as_mut_ptr(), answer.len()) }
+}
+
+fn standing(state: &[u64], answer: &mut [u64]) -> u64 {
+    unsafe { sys::justrave_standing(state.as_ptr(), state.len(), answer.as_mut_ptr(), answer.len()) }
 }
 
 /// T as numbers, with zeros behind its two places.
@@ -69,28 +87,80 @@ fn started() -> [u64; WORDS] {
 }
 
 #[test]
-fn the_number_of_words() {
-    assert_eq!(unsafe { sys::justrave_state_words() }, WORDS);
+fn the_layout() {
+    assert_eq!(unsafe { sys::justrave_layout() }, 2);
 }
 
-/// 255 comes ahead of 8, 12, 11 and 13, and changes nothing.
+/// 0 for a room that no state has.
 #[test]
-fn a_state_of_another_length() {
-    for length in [0, 1, WORDS - 1, WORDS + 1] {
-        let mut state = vec![UNTOUCHED; length];
-        let (mut answer, mut lead_answer) = ([UNTOUCHED; 2], [-7]);
-        let mut log = vec![0xA5; 65_537];
-        assert_eq!(start(&[], u64::MAX, &mut state), 255);
-        assert_eq!(start_numbers(&[0; NUMBERS], u64::MAX, &mut state), 255);
-        assert_eq!(post(&mut state, 99, 1), 255);
-        assert_eq!(slot(&mut state, &mut answer), 255);
-        assert_eq!(run(&mut state, &mut log), 255);
-        assert_eq!(figures(&state, 99, 0, &mut answer), 255);
-        assert_eq!(lead(&state, 99, &log, &mut lead_answer), 255);
-        assert_eq!(write(&state, &mut log, &mut answer[..1]), 255);
-        assert!(state.iter().chain(&answer).all(|&word| word == UNTOUCHED));
-        assert!(log.iter().all(|&byte| byte == 0xA5));
-        assert_eq!(lead_answer, [-7]);
+fn the_number_of_words() {
+    let words = |places| unsafe { sys::justrave_state_words(places) };
+    for places in 1..=MOST {
+        assert_eq!(words(places), words_for(places));
+    }
+    for places in [0, MOST + 1, 99, 1 << 32, usize::MAX / 6, usize::MAX] {
+        assert_eq!(words(places), 0);
+    }
+}
+
+/// A call on words that hold nothing but `UNTOUCHED`, with everything else that it is lent.
+struct Lent {
+    state: Vec<u64>,
+    answer: [u64; 2],
+    lead: [i64; 1],
+    log: Vec<u8>,
+}
+
+impl Lent {
+    fn with_words(length: usize) -> Lent {
+        Lent { state: vec![UNTOUCHED; length], answer: [UNTOUCHED; 2], lead: [-7], log: vec![0xA5; 65_537] }
+    }
+
+    fn is_untouched(&self) -> bool {
+        self.state.iter().chain(&self.answer).all(|&word| word == UNTOUCHED)
+            && self.lead == [-7]
+            && self.log.iter().all(|&byte| byte == 0xA5)
+    }
+
+    /// The calls that take a state, each with something that would be refused 5, 11 or 13.
+    fn outcomes(&mut self) -> [u64; 8] {
+        let Lent { state, answer, lead: lead_answer, log } = self;
+        [
+            post(state, 99, 1),
+            slot(state, answer),
+            run(state, log),
+            figures(state, 99, 0, answer),
+            lead(state, 99, log, lead_answer),
+            write(state, log, &mut answer[..1]),
+            account(state, 99, answer),
+            standing(state, answer),
+        ]
+    }
+}
+
+/// Every length from 0 to one past the words for 17 places. 255 comes exactly where no state has as many words, ahead of 8, 1, 12, 11,
+/// 5 and 13, and changes nothing; any other length is looked at, and these words are no state's.
+#[test]
+fn words_of_every_length() {
+    let right: Vec<usize> = (1..=MOST).map(words_for).collect();
+    for length in 0..=words_for(MOST + 1) + 1 {
+        let mut lent = Lent::with_words(length);
+        let is_right = right.contains(&length);
+        assert_eq!(lent.outcomes(), [if is_right { 23 } else { 255 }; 8], "{length} words");
+        assert!(lent.is_untouched(), "{length} words");
+        let started = start(&[], u64::MAX, &mut lent.state);
+        assert_eq!(started, if is_right { 8 } else { 255 }, "{length} words");
+        assert!(is_right != lent.is_untouched(), "{length} words");
+        for places in 1..=MOST {
+            let mut lent = Lent::with_words(length);
+            let started = start_numbers(&vec![0; numbers_for(places)], u64::MAX, &mut lent.state);
+            assert_eq!(
+                started,
+                if length == words_for(places) { 1 } else { 255 },
+                "{length} words, numbers for {places}"
+            );
+            assert!((started == 1) != lent.is_untouched());
+        }
     }
 }
 
@@ -98,13 +168,15 @@ fn a_state_of_another_length() {
 #[test]
 fn an_answer_of_another_length() {
     for state in [started(), [u64::MAX; WORDS]] {
-        for length in [0, 1, 2, 3] {
+        for length in 0..=4 {
             let mut kept = state;
             let (mut answer, mut lead_answer) = (vec![UNTOUCHED; length], vec![-7; length]);
             let mut buffer = [0xA5; 20];
             if length != 2 {
                 assert_eq!(slot(&mut kept, &mut answer), 255);
                 assert_eq!(figures(&kept, 99, 0, &mut answer), 255);
+                assert_eq!(account(&kept, 99, &mut answer), 255);
+                assert_eq!(standing(&kept, &mut answer), 255);
             }
             if length != 1 {
                 assert_eq!(lead(&kept, 99, &[], &mut lead_answer), 255);
@@ -113,6 +185,55 @@ fn an_answer_of_another_length() {
             assert_eq!(kept, state);
             assert_eq!(buffer, [0xA5; 20]);
             assert!(answer.iter().all(|&word| word == UNTOUCHED) && lead_answer.iter().all(|&lead| lead == -7));
+        }
+    }
+}
+
+/// Every length from 0 to one past the numbers for 17 places, in every room: 255 comes ahead of 1 and 12, and changes nothing.
+#[test]
+fn numbers_of_every_length() {
+    for places in 1..=MOST {
+        for length in 0..=numbers_for(MOST + 1) + 1 {
+            let mut state = vec![UNTOUCHED; words_for(places)];
+            let outcome = start_numbers(&vec![0; length], u64::MAX, &mut state);
+            let (must, left) = if length == numbers_for(places) { (1, 0) } else { (255, UNTOUCHED) };
+            assert_eq!(outcome, must, "{length} numbers, room for {places}");
+            assert!(state.iter().all(|&word| word == left), "{length} numbers, room for {places}");
+        }
+    }
+}
+
+/// A table of so many places, as bytes and as numbers for a room. N stands in the numbers even where it is above the room.
+fn table_of(places: usize, room: usize) -> (Vec<u8>, Vec<u32>) {
+    let row = [1, 64, 1, 127];
+    let bytes = [64, places as u8].into_iter().chain((0..places).flat_map(|_| row)).collect::<Vec<u8>>();
+    let mut numbers: Vec<u32> = bytes.iter().map(|&byte| byte.into()).collect();
+    numbers.resize(numbers_for(room), 0);
+    (bytes, numbers)
+}
+
+/// Each N in each room: a table that does not fit is refused 2, and every other makes a state that goes on.
+#[test]
+fn every_table_in_every_room() {
+    for room in 1..=MOST {
+        for places in 1..=MOST + 1 {
+            let (bytes, numbers) = table_of(places, room);
+            let (mut from_bytes, mut from_numbers) =
+                (vec![UNTOUCHED; words_for(room)], vec![UNTOUCHED; words_for(room)]);
+            let must = if places > room { 2 } else { 0 };
+            assert_eq!(start(&bytes, 70, &mut from_bytes), must, "{places} places, room for {room}");
+            assert_eq!(start_numbers(&numbers, 70, &mut from_numbers), must, "{places} places, room for {room}");
+            assert_eq!(from_bytes, from_numbers);
+            if must == 0 {
+                let mut answer = [UNTOUCHED; 2];
+                assert_eq!(post(&mut from_bytes, places - 1, 1), 0);
+                assert_eq!((slot(&mut from_bytes, &mut answer), answer), (0, [70, places as u64]));
+                assert_eq!((standing(&from_bytes, &mut answer), answer), (0, [71, places as u64]));
+                assert_eq!((account(&from_bytes, places - 1, &mut answer), answer), (0, [1, 0]));
+                assert_eq!(account(&from_bytes, places, &mut answer), 11);
+            } else {
+                assert!(from_bytes.iter().all(|&word| word == 0));
+            }
         }
     }
 }
@@ -139,20 +260,11 @@ fn a_start_from_numbers_is_the_start_from_bytes() {
     assert_eq!(from_numbers, from_bytes);
 }
 
-/// 255 comes ahead of 1 and 12, and changes nothing.
-#[test]
-fn numbers_of_another_length() {
-    for length in [0, 1, 10, NUMBERS - 1, NUMBERS + 1] {
-        let mut state = [UNTOUCHED; WORDS];
-        assert_eq!(start_numbers(&vec![0; length], u64::MAX, &mut state), 255);
-        assert_eq!(state, [UNTOUCHED; WORDS]);
-    }
-}
-
 #[test]
 fn a_refused_start_from_numbers_clears_the_words() {
     for (at, number, first, outcome) in [
         (0, 0, 0, 1),
+        (1, 4, 0, 2),
         (1, 17, 0, 2),
         (NUMBERS - 1, 1, 0, 2),
         (2, 5, 0, 3 + 256),
@@ -181,6 +293,8 @@ fn cleared_words_are_no_state() {
     assert_eq!(figures(&state, 99, 0, &mut answer), 23);
     assert_eq!(lead(&state, 99, &log, &mut lead_answer), 23);
     assert_eq!(write(&state, &mut log, &mut answer[..1]), 23);
+    assert_eq!(account(&state, 99, &mut answer), 23);
+    assert_eq!(standing(&state, &mut answer), 23);
     assert_eq!((state, answer, lead_answer, log), ([0; WORDS], [UNTOUCHED; 2], [-7], [0xA5; 20]));
 }
 
@@ -190,13 +304,18 @@ fn refused_calls_write_nothing() {
     let kept = state;
     let (mut answer, mut lead_answer, mut log) = ([UNTOUCHED; 2], [-7], vec![0xA5; 65_537]);
     assert_eq!(post(&mut state, 2, 1), 11);
-    assert_eq!(post(&mut state, 1, 65_535), 21);
+    for count in [65_535, 1 << 32, (1 << 32) + 1, u64::MAX] {
+        assert_eq!(post(&mut state, 1, count), 21);
+    }
     assert_eq!(run(&mut state, &mut log), 13);
     assert_eq!(figures(&state, 2, 1, &mut answer), 11);
-    assert_eq!(figures(&state, 1, 256, &mut answer), 5 + 256 * 2);
+    for transfers in [0, 256, (1 << 32) + 1, u64::MAX] {
+        assert_eq!(figures(&state, 1, transfers, &mut answer), 5 + 256 * 2);
+    }
     assert_eq!(lead(&state, 2, &log, &mut lead_answer), 11);
     assert_eq!(lead(&state, 1, &log, &mut lead_answer), 13);
     assert_eq!(write(&state, &mut log[..9], &mut answer[..1]), 14);
+    assert_eq!(account(&state, 2, &mut answer), 11);
     assert_eq!((state, answer, lead_answer), (kept, [UNTOUCHED; 2], [-7]));
     assert!(log.iter().all(|&byte| byte == 0xA5));
 }
@@ -218,6 +337,10 @@ fn nothing_is_written_beside_lent_memory() {
     assert_eq!(answer, [UNTOUCHED, 3, 7, UNTOUCHED]);
     assert_eq!(write(state, &mut log[1..21], &mut answer[1..2]), 0);
     assert_eq!(answer, [UNTOUCHED, 10, 7, UNTOUCHED]);
+    assert_eq!(account(state, 1, &mut answer[1..3]), 0);
+    assert_eq!(answer, [UNTOUCHED, 0, 0, UNTOUCHED]);
+    assert_eq!(standing(state, &mut answer[1..3]), 0);
+    assert_eq!(answer, [UNTOUCHED, 4, 2, UNTOUCHED]);
     assert_eq!((log[0], &log[1..11], &log[11..]), (0xA5, &T[..], &[0xA5; 11][..]));
     assert_eq!((memory[0], memory[WORDS + 1]), (UNTOUCHED, UNTOUCHED));
 }
@@ -235,6 +358,8 @@ fn null_of_length_0_may_be_lent() {
         assert_eq!(sys::justrave_lead(words, WORDS, 1, null(), 0, lead_answer.as_mut_ptr(), 1), 0);
         assert_eq!(sys::justrave_write(words, WORDS, null_mut(), 0, length.as_mut_ptr(), 1), 14);
         assert_eq!(sys::justrave_slot(words, WORDS, null_mut(), 0), 255);
+        assert_eq!(sys::justrave_account(words, WORDS, 1, null_mut(), 0), 255);
+        assert_eq!(sys::justrave_standing(null(), 0, null_mut(), 0), 255);
         assert_eq!(sys::justrave_post(null_mut(), 0, 1, 1), 255);
         assert_eq!(sys::justrave_start_numbers(null(), 0, 0, words, WORDS), 255);
         assert_eq!((state, lead_answer, length), (kept, [0], [UNTOUCHED]));

@@ -1,6 +1,6 @@
 //! Document 01's bench examples through the wrapper, by their numbers. Nothing here knows the model.
 
-use justrave::{Arbiter, Cause, Figures, Refusal, SlotAnswer, Slots, Transfers};
+use justrave::{Arbiter, Cause, Figures, Refusal, SlotAnswer, Slots, Standing, Transfers};
 
 /// Table T.
 const T: [u8; 10] = [0x04, 0x02, 0x01, 0x08, 0x01, 0x04, 0x01, 0x04, 0x01, 0x07];
@@ -50,15 +50,19 @@ fn cases_3_and_5_a_run_and_its_leads() {
     assert_eq!((line.lead(0, &log), line.lead(1, &log), line.lead(1, &log[..2])), (Ok(3), Ok(3), Ok(-2)));
 }
 
-/// The credits are not told through the wrapper; the slots that follow show them.
+/// The credits after three slots are the case; those after the others show that it goes on.
 #[test]
 fn case_4_by_single_slots() {
     let mut line = case_3();
     let places = [Some(0), Some(0), Some(1), Some(0), Some(1), None, None, Some(1), None];
-    for (stamp, place) in (0..).map(Slots).zip(places) {
+    let credits = [(5, 5), (2, 6), (3, 3), (0, 4), (1, 1), (2, 2), (3, 3), (4, 0), (5, 1)];
+    for ((stamp, place), (first, second)) in (0..).map(Slots).zip(places).zip(credits) {
         let must = place.map_or(SlotAnswer::Idle(stamp), |place| SlotAnswer::Granted(stamp, place));
         assert_eq!(line.slot(), Ok(must));
+        assert_eq!(line.account(0).map(|account| account.credit), Ok(first));
+        assert_eq!(line.account(1).map(|account| account.credit), Ok(second));
     }
+    assert_eq!(line.standing(), Ok(Standing { slot: Slots(9), places: 2 }));
 }
 
 #[test]

@@ -1,25 +1,27 @@
 -- The sums above a place of a table that passes checks 1 to 6: they fit below D, and the place's own rate is left.
 -- Assumes nothing.
 use mathlib.Core.Path.{_≡_, refl, ap}
-use Prim.Native.Nat.{ℕ, suc, _+_, _≤_, _<_}
+use Prim.Native.Nat.{ℕ, suc, _+_, _*_, _≤_, _<_}
 use native.Mathlib.Omega.{arith}
 use lib.ListN.{length, getD, length-take}
 use lib.Seq.{getD-take, take-take}
 use Rattle.lists.specs.Sums.{total}
-use Rattle.lists.proofs.Sums.{total-take-drop, total-take-suc}
+use Rattle.lists.proofs.Sums.{total-take-drop, total-take-rises, total-take-suc}
 use Rattle.arbiter.specs.declared.table.Table.{Table}
-use Rattle.arbiter.specs.Limits.{maxDenominator}
+use Rattle.arbiter.specs.Limits.{maxDenominator, maxBurst, maxNeed}
 use Rattle.arbiter.specs.Refusals.{faultless}
 use Rattle.arbiter.specs.Table.{rate, burst, noRequestor, requestorsOf, tableVerdict}
 use Rattle.arbiter.specs.Figures.{burstsAbove, ratesAbove}
-use Rattle.arbiter.proofs.Checks.{fair}
+use Rattle.arbiter.proofs.Checks.{fair, bursts-fit}
 
 -- of place p, below N
 pub record Above (limit : ℕ) (t : Table) (p : ℕ) : Type 0 where
   pub place : p < limit
   pub denominator-most : t .denominator ≤ maxDenominator
   pub own-rate : 1 ≤ getD (t .requestors) p noRequestor .rate
+  pub own-need : getD (t .requestors) p noRequestor .need .0 ≤ maxNeed
   pub rates : ratesAbove p (t .requestors) + getD (t .requestors) p noRequestor .rate ≤ t .denominator
+  pub bursts-most : burstsAbove p (t .requestors) ≤ limit * maxBurst
   -- the table's own rows and the rows of places 0 to N−1 are the same up to here
   pub same-rates : ratesAbove p (requestorsOf t) ≡ ratesAbove p (t .requestors)
   pub same-bursts : burstsAbove p (requestorsOf t) ≡ burstsAbove p (t .requestors)
@@ -37,7 +39,9 @@ above limit t p long ok h =
       place = omega (arith, f .count-most);
       denominator-most = f .denominator-most;
       own-rate = least;
+      own-need = rw row at (f .row p inside .need-most);
       rates = omega (arith, sum, total-take-drop rate (suc p) (requestorsOf t), f .rate-sum);
+      bursts-most = omega (arith, total-take-rises burst p (t .count) (t .requestors) (omega arith), bursts-fit limit t f);
       same-rates = ap (total rate) cut;
       same-bursts = ap (total burst) cut;
       same-row = row;

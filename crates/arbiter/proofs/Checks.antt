@@ -2,19 +2,20 @@
 use mathlib.Core.Path.{_≡_, refl, ap, sym, _∙_}
 use mathlib.Core.Bool.{Bool, true, false}
 use mathlib.Core.List.{List, [], _∷_}
-use Prim.Native.Nat.{ℕ, zero, suc, _+_, _≤_, _<_}
-use native.Mathlib.Nat.{not-suc-le-zero, zero-add, add-zero, add-suc, suc-add}
+use Prim.Native.Nat.{ℕ, zero, suc, _+_, _*_, _≤_, _<_}
+use native.Mathlib.Nat.{mul-le-mul-right, not-suc-le-zero, zero-add, add-zero, add-suc, suc-add}
 use native.Mathlib.Omega.{arith}
 use borrow.Author.Tests.{leb-true}
-use lib.ListN.{length, drop}
+use lib.ListN.{length, drop, length-take}
 use Rattle.lists.specs.Sums.{total, every}
+use Rattle.lists.proofs.Sums.{total-most}
 use Rattle.lists.proofs.Tests.{in-range-true, in-range}
 use Rattle.arbiter.specs.declared.refusals.Refusal.{Refusal}
 use Rattle.arbiter.specs.declared.table.Requestor.{Requestor}
 use Rattle.arbiter.specs.declared.table.Table.{Table}
 use Rattle.arbiter.specs.Limits.{maxDenominator, maxBurst, maxNeed, maxWithin}
 use Rattle.arbiter.specs.Refusals.{Verdict, faultless, fault, gate, then}
-use Rattle.arbiter.specs.Table.{Bounds, denominatorBounds, countBounds, rateBounds, burstBounds, needBounds, withinBounds, heldTo, rate, requestorClear, requestorAt, requestorsOf, rowVerdict, eachPlace, tailVerdict, rateSumVerdict, tableVerdict}
+use Rattle.arbiter.specs.Table.{Bounds, denominatorBounds, countBounds, rateBounds, burstBounds, needBounds, withinBounds, heldTo, rate, burst, noRequestor, requestorClear, requestorAt, requestorsOf, rowVerdict, eachPlace, tailVerdict, rateSumVerdict, tableVerdict}
 use Rattle.arbiter.specs.Figures.{finish, finishVerdict, admissionVerdict}
 
 -- no verdict is both
@@ -80,7 +81,7 @@ pub record Row (d : ℕ) (r : Requestor) : Type 0 where
   pub within-least : 1 ≤ r .within .0
   pub within-most : r .within .0 ≤ maxWithin
 
-row-open : (d p : ℕ) (r : Requestor) → rowVerdict d p r ≡ faultless → Row d r
+pub row-open : (d p : ℕ) (r : Requestor) → rowVerdict d p r ≡ faultless → Row d r
 unfolding rowVerdict
 row-open d p r e =
     let a = then-open _ _ e in
@@ -143,6 +144,15 @@ fair limit t e =
       row = λ q h. row-open _ (0 + q) _ (each-place-at (rowVerdict (t .denominator)) 0 (requestorsOf t) (p .rows) q h);
       rate-sum = leb-true _ _ (gate-open _ _ _ (p .sum) .0);
     }
+
+-- the rates of rows within their limits, and the bursts of a table within its own
+pub rates-fit : (d : ℕ) (rs : List Requestor) → eachPlace (rowVerdict d) 0 rs ≡ faultless → total rate rs ≤ length rs * d
+rates-fit d rs e = total-most rate noRequestor d rs (λ p h. row-open d (0 + p) _ (each-place-at (rowVerdict d) 0 rs e p h) .rate-most)
+
+pub bursts-fit : (limit : ℕ) (t : Table) → Fair limit t → total burst (requestorsOf t) ≤ limit * maxBurst
+bursts-fit limit t f =
+    let few : length (requestorsOf t) ≤ limit = omega (arith, length-take (t .count) (t .requestors), f .count-most) in
+    omega (arith, total-most burst noRequestor maxBurst (requestorsOf t) (λ p h. f .row p h .burst-most), mul-le-mul-right maxBurst few)
 
 -- a table that passes admission: checks 1 to 6, and each need holds
 pub record Admitted (limit : ℕ) (t : Table) : Type 0 where

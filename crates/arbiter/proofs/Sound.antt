@@ -4,7 +4,6 @@ use mathlib.Core.Path.{_≡_, refl, ap, sym, _∙_}
 use mathlib.Core.Bool.{true}
 use mathlib.Core.List.{List, [], _∷_, map}
 use Prim.Native.Nat.{ℕ, zero, suc, _*_, _≤_, _<_}
-use native.Mathlib.Nat.{mul-le-mul-right}
 use native.Mathlib.Decide.{decLe}
 use native.Mathlib.Omega.{arith}
 use borrow.Author.Tests.{ltb-true, leb-true, le-leb, eqb-true, eq-eqb}
@@ -23,7 +22,7 @@ use Rattle.arbiter.specs.Refusals.{Verdict, faultless, fault}
 use Rattle.arbiter.specs.Table.{rate, burst, noRequestor, requestorClear, requestorsOf, tableVerdict, requestorAt}
 use Rattle.arbiter.specs.State.{credit, backlog, noAccount, accountClear, backlogFits, accountAt, creditsHold, isFaultless, accountsHold, sound, placeVerdict, Shaped}
 use Rattle.arbiter.specs.Start.{fresh, opening, startVerdict}
-use Rattle.arbiter.proofs.Checks.{gate-open, then-open, Row, Fair, fair, Admitted, admitted}
+use Rattle.arbiter.proofs.Checks.{gate-open, then-open, Row, bursts-fit, Fair, fair, Admitted, admitted}
 
 -- the state breaks no rule, and its arrays have `limit` elements each
 pub record Sound (limit : ℕ) (s : Arbiter) : Type 0 where
@@ -35,7 +34,7 @@ pub record Sound (limit : ℕ) (s : Arbiter) : Type 0 where
   pub sums : (k : ℕ) → total credit (take k (s .accounts)) ≤ total burst (take k (s .table .requestors))
   pub clear : every accountClear (drop (s .table .count) (s .accounts)) ≡ true
 
-is-faultless-true : (v : Verdict) → isFaultless v ≡ true → v ≡ faultless
+pub is-faultless-true : (v : Verdict) → isFaultless v ≡ true → v ≡ faultless
 is-faultless-true faultless e = refl
 is-faultless-true (fault r) e = true-false (sym e)
 
@@ -131,9 +130,7 @@ module _ (limit : ℕ) (s : Arbiter) where
       at-most-total credit noAccount refl p (s .accounts),
       credits-first (s .table .count) (s .accounts) (v .clear),
       v .sums (s .table .count),
-      total-most burst noRequestor maxBurst (requestorsOf (s .table)) (λ q h. sound-fair .row q h .burst-most),
-      places-length limit (s .table) (v .rows) sound-fair,
-      mul-le-mul-right maxBurst (sound-fair .count-most),
+      bursts-fit limit (s .table) sound-fair,
     )
 
 -- the first account of each place: its credit is the burst, and it is clear where the row is

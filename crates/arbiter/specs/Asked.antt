@@ -18,7 +18,7 @@ pub data FiguresAnswer : Type 0 where
 unfoldable pub figuresVerdict : ℕ → Arbiter → (place j : ℕ) → Verdict
 figuresVerdict limit s p j = then (placeVerdict limit s p) (heldTo (needBounds p) j)
 
--- `limit` is the largest N
+-- `limit` is how many places there is room for
 unfoldable pub figures : ℕ → Arbiter → (place j : ℕ) → FiguresAnswer
 figures limit s p j =
     resolve (figuresVerdict limit s p j)

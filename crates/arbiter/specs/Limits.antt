@@ -5,7 +5,8 @@ use Prim.Native.Nat.{ℕ}
 abbrev pub maxDenominator : ℕ
 maxDenominator = 65535
 
--- N, the number of requestors. Definitions take it as a parameter; only contracts and rows put this number there.
+-- N, the number of requestors. Definitions take `limit`, how many places there is room for; by value that is this number, and only
+-- contracts and rows put it there.
 abbrev pub maxPlaces : ℕ
 maxPlaces = 16
 

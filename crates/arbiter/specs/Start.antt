@@ -43,7 +43,7 @@ noState limit = record { table = noTable limit; slot = record { 0 = 0 }; account
 unfoldable pub startVerdict : ℕ → Table → ℕ → Verdict
 startVerdict limit t first = then (admissionVerdict limit t) (gate (refusal 12) (leb first maxSlot) faultless)
 
--- start; `limit` is the largest N
+-- start; `limit` is how many places there is room for: by value the largest N
 unfoldable pub start : ℕ → Table → ℕ → Result Arbiter Answer
 start limit t first =
     resolve (startVerdict limit t first)

@@ -50,7 +50,7 @@ isFaultless v = resolve v true (λ r. false)
 unfoldable pub accountsHold : ℕ → List Requestor → List Account → Bool
 accountsHold n rs accounts = every backlogFits (take n accounts) && upTo n (creditsHold rs accounts)
 
--- the state breaks no rule; `limit` is the largest N
+-- the state breaks no rule; `limit` is how many places there is room for
 unfoldable pub sound : ℕ → Arbiter → Bool
 sound limit s =
     isFaultless (tableVerdict limit (s .table))

@@ -103,7 +103,7 @@ tailVerdict t = gate (refusal 2) (every requestorClear (drop (t .count) (t .requ
 unfoldable pub rateSumVerdict : Table → Verdict
 rateSumVerdict t = gate (refusal 6) (leb (total rate (requestorsOf t)) (t .denominator)) faultless
 
--- checks 1 to 6; `limit` is the largest N
+-- checks 1 to 6; `limit` is how many places there is room for
 unfoldable pub tableVerdict : ℕ → Table → Verdict
 tableVerdict limit t =
     then (heldTo denominatorBounds (t .denominator))

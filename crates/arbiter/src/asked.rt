@@ -47,7 +47,7 @@ pub fn figures(s: Arbiter, place: usize, j: Transfers) -> FiguresAnswer
     ensures { λ a. ⌜ figuresAnswerOf a ≡ figures maxPlaces s place (j .0) ⌝ }
 {
     let there = check_place(s, place);
-    let need = Bounds::of_need(place).hold(j.0 as u64);
+    let need = Bounds::of_need(place).hold(j.0);
     let verdict = first_fault(there, need);
     match verdict {
         Verdict::Fault(c) => FiguresAnswer::Refused(c),

@@ -5,6 +5,7 @@ use crate::refusals::InputRefusal;
 use crate::refusals::Verdict;
 use crate::state::Arbiter;
 ghost use mathlib.Core.Path.{_≡_};
+ghost use Rattle.lists.specs.Choices.{inRange};
 ghost use Rattle.arbiter.specs.Limits.{maxPlaces};
 ghost use Rattle.arbiter.specs.Refusals.{verdictOf};
 ghost use Rattle.arbiter.specs.Table.{boundsOf, denominatorBounds, countBounds, rateBounds, burstBounds, needBounds, withinBounds, heldTo};
@@ -22,7 +23,7 @@ impl Bounds {
     {
         Bounds {
             low: 1,
-            high: Arbiter::MAX_DENOMINATOR as u64,
+            high: Arbiter::MAX_DENOMINATOR,
             outside: InputRefusal::Denominator,
         }
     }
@@ -38,24 +39,35 @@ impl Bounds {
         }
     }
 
+    // N where there is room for so many places.
+    pub fn of_count_within(room: usize) -> Bounds
+        ensures { λ b. ⌜ boundsOf b ≡ countBounds room ⌝ }
+    {
+        Bounds {
+            low: 1,
+            high: room as u64,
+            outside: InputRefusal::Count,
+        }
+    }
+
     // The rate n at place p.
-    pub fn of_rate(d: u32, p: usize) -> Bounds
+    pub fn of_rate(d: u64, p: usize) -> Bounds
         ensures { λ b. ⌜ boundsOf b ≡ rateBounds d p ⌝ }
     {
         Bounds {
             low: 1,
-            high: d as u64,
+            high: d,
             outside: InputRefusal::Rate(p),
         }
     }
 
     // The burst b at place p.
-    pub fn of_burst(d: u32, p: usize) -> Bounds
+    pub fn of_burst(d: u64, p: usize) -> Bounds
         ensures { λ b. ⌜ boundsOf b ≡ burstBounds d p ⌝ }
     {
         Bounds {
-            low: d as u64,
-            high: Arbiter::MAX_BURST as u64,
+            low: d,
+            high: Arbiter::MAX_BURST,
             outside: InputRefusal::Burst(p),
         }
     }
@@ -66,7 +78,7 @@ impl Bounds {
     {
         Bounds {
             low: 1,
-            high: Arbiter::MAX_NEED as u64,
+            high: Arbiter::MAX_NEED,
             outside: InputRefusal::Need(p),
         }
     }
@@ -82,17 +94,24 @@ impl Bounds {
         }
     }
 
+    // Whether a number is within these bounds.
+    pub fn admits(self, x: u64) -> bool
+        ensures { λ b. ⌜ b ≡ inRange (boundsOf self .low) (boundsOf self .high) x ⌝ }
+    {
+        if x < self.low {
+            return false;
+        }
+        x <= self.high
+    }
+
     // A number held to these bounds.
     pub fn hold(self, x: u64) -> Verdict
         ensures { λ v. ⌜ verdictOf v ≡ heldTo (boundsOf self) x ⌝ }
     {
+        if self.admits(x) {
+            return Verdict::Faultless;
+        }
         let why = self.outside;
-        if x < self.low {
-            return Verdict::Fault(Cause::Input(why));
-        }
-        if self.high < x {
-            return Verdict::Fault(Cause::Input(why));
-        }
-        Verdict::Faultless
+        Verdict::Fault(Cause::Input(why))
     }
 }

@@ -6,7 +6,7 @@ use crate::units::Slots;
 use crate::units::Transfers;
 ghost use mathlib.Core.Path.{_≡_};
 ghost use Prim.Native.Nat.{ℕ, _+_, _≤_, _<_, _^_};
-ghost use Rattle.arbiter.specs.Limits.{maxPlaces};
+ghost use Rattle.arbiter.specs.Limits.{maxPlaces, maxNeed};
 ghost use Rattle.arbiter.specs.Refusals.{faultless};
 ghost use Rattle.arbiter.specs.Table.{requestorsOf, tableVerdict};
 ghost use Rattle.arbiter.specs.Figures.{roundedUp, wait, finish};
@@ -27,19 +27,19 @@ pub(crate) fn wait(t: Table, p: usize) -> Slots
     ensures small { λ r. ⌜ r .0 < 2 ^ 62 ⌝ }
 {
     let d = t.denominator;
-    let left = (d as u64) - rates_above(t, p);
+    let left = d - rates_above(t, p);
     Slots(rounded_up(bursts_above(t, p), left))
 }
 
 // The finish figure of place p for j transfers: the wait, and j * D / n rounded up.
 pub(crate) fn finish(t: Table, p: usize, j: Transfers) -> Slots
-    requires { ⌜ (tableVerdict maxPlaces t ≡ faultless) × (p < t .count) ⌝ }
+    requires { ⌜ (tableVerdict maxPlaces t ≡ faultless) × (p < t .count) × (j .0 ≤ maxNeed) ⌝ }
     ensures { λ r. ⌜ r .0 ≡ finish (t .denominator) (requestorsOf t) p (j .0) ⌝ }
 {
     let d = t.denominator;
     let r = t.requestors[p];
     let n = r.rate;
     let w = wait(t, p);
-    let transfer = rounded_up((j.0 as u64) * (d as u64), n as u64);
+    let transfer = rounded_up(j.0 * d, n);
     Slots(w.0 + transfer)
 }

@@ -16,12 +16,14 @@ ghost use Prim.Native.Nat.{_≤_};
 ghost use lib.ListN.{drop};
 ghost use Rattle.lists.specs.Sums.{every};
 ghost use Rattle.arbiter.specs.Limits.{maxDenominator, maxPlaces, maxBurst, maxNeed, maxWithin, maxBacklog, maxSlot, maxInput};
+ghost use Rattle.arbiter.specs.Refusals.{faultless};
+ghost use Rattle.arbiter.specs.Table.{tableVerdict};
 ghost use Rattle.arbiter.specs.State.{noAccount, accountClear, accountsHold, sound};
 ghost use Rattle.arbiter.specs.Start.{start, startResultOf};
 
 // What a slot changes of one place: its credit c and its backlog q.
 pub struct Account {
-    pub credit: u32,
+    pub credit: u64,
     pub backlog: Transfers,
 }
 
@@ -42,7 +44,7 @@ pub fn no_account() -> Account
     }
 }
 
-fn account_is_clear(a: Account) -> bool
+pub fn account_is_clear(a: Account) -> bool
     ensures { λ b. ⌜ b ≡ accountClear a ⌝ }
 {
     let q = a.backlog;
@@ -69,15 +71,15 @@ fn other_accounts_are_clear(s: Arbiter) -> bool
     true
 }
 
-// Whether no backlog passes its limit and no credit sum passes the burst sum.
+// Whether no backlog passes its limit and no credit sum passes the burst sum. A credit can be any word, so credits are never added up:
+// `room` is the bursts so far less the credits so far, and the bursts of a checked table cannot overflow.
 fn accounts_hold(s: Arbiter) -> bool
-    requires { ⌜ s .table .count ≤ maxPlaces ⌝ }
+    requires { ⌜ tableVerdict maxPlaces (s .table) ≡ faultless ⌝ }
     ensures { λ b. ⌜ b ≡ accountsHold (s .table .count) (s .table .requestors) (s .accounts) ⌝ }
 {
     let t = s.table;
     let n = t.count;
-    let mut credits: u64 = 0;
-    let mut bursts: u64 = 0;
+    let mut room: u64 = 0;
     let mut p: usize = 0;
     while p < n {
         let r = t.requestors[p];
@@ -86,28 +88,28 @@ fn accounts_hold(s: Arbiter) -> bool
         if Arbiter::MAX_BACKLOG < q.0 {
             return false;
         }
-        credits = credits + (a.credit as u64);
-        bursts = bursts + (r.burst as u64);
-        if bursts < credits {
+        room = room + r.burst;
+        if room < a.credit {
             return false;
         }
+        room = room - a.credit;
         p = p + 1;
     }
     true
 }
 
 impl Arbiter {
-    pub const MAX_DENOMINATOR: u32 = 65535;
+    pub const MAX_DENOMINATOR: u64 = 65535;
 
     pub const MAX_PLACES: usize = 16;
 
-    pub const MAX_BURST: u32 = 16777216;
+    pub const MAX_BURST: u64 = 16777216;
 
-    pub const MAX_NEED: u32 = 255;
+    pub const MAX_NEED: u64 = 255;
 
     pub const MAX_WITHIN: u64 = 1073741824;
 
-    pub const MAX_BACKLOG: u32 = 65535;
+    pub const MAX_BACKLOG: u64 = 65535;
 
     pub const MAX_SLOT: u64 = 4611686018427387904;
     // The bytes of a log or of the program's input.

@@ -4,7 +4,7 @@ use crate::state::Arbiter;
 use crate::table::Table;
 ghost use mathlib.Core.Path.{_≡_};
 ghost use mathlib.Core.List.{map};
-ghost use Prim.Native.Nat.{ℕ, _*_, _≤_};
+ghost use Prim.Native.Nat.{_≤_, _<_, _^_};
 ghost use lib.ListN.{length, take};
 ghost use Rattle.lists.specs.Sums.{total};
 ghost use Rattle.arbiter.specs.Limits.{maxPlaces};
@@ -13,15 +13,15 @@ ghost use Rattle.arbiter.specs.Figures.{burstsAbove, ratesAbove};
 
 // The rates and the bursts of a table's rows.
 pub struct Columns {
-    pub rates: [u32; Arbiter::MAX_PLACES],
-    pub bursts: [u32; Arbiter::MAX_PLACES],
+    pub rates: [u64; Arbiter::MAX_PLACES],
+    pub bursts: [u64; Arbiter::MAX_PLACES],
 }
 
 pub fn columns_of(t: Table) -> Columns
     ensures { λ c. ⌜ (c .rates ≡ map rate (t .requestors)) × (c .bursts ≡ map burst (t .requestors)) ⌝ }
 {
-    let mut rates = [0u32; Arbiter::MAX_PLACES];
-    let mut bursts = [0u32; Arbiter::MAX_PLACES];
+    let mut rates = [0u64; Arbiter::MAX_PLACES];
+    let mut bursts = [0u64; Arbiter::MAX_PLACES];
     let mut p: usize = 0;
     while p < Arbiter::MAX_PLACES {
         let r = t.requestors[p];
@@ -35,25 +35,23 @@ pub fn columns_of(t: Table) -> Columns
     }
 }
 
-// The sum of the numbers above place p.
-fn sum_above(numbers: &[u32], p: usize) -> u64
-    requires { ⌜ (p ≤ maxPlaces) × (p ≤ length (now numbers)) ⌝ }
-    ensures sum { λ (r : ℕ). ⌜ r ≡ total (λ x. x) (take p (now (numbers .entry))) ⌝ }
-    ensures small { λ (r : ℕ). ⌜ r ≤ p * 4294967295 ⌝ }
+// The sum of the numbers above place p. That it fits is asked of the caller, who knows what the numbers are held to.
+fn sum_above(numbers: &[u64], p: usize) -> u64
+    requires { ⌜ (p ≤ length (now numbers)) × (total (λ x. x) (take p (now numbers)) < 2 ^ 64) ⌝ }
+    ensures { λ r. ⌜ r ≡ total (λ x. x) (take p (now (numbers .entry))) ⌝ }
 {
     if p == 0 {
         0
     } else {
         let q = p - 1;
-        sum_above(numbers, q) + (numbers[q] as u64)
+        sum_above(numbers, q) + numbers[q]
     }
 }
 
 // The sum of the bursts above p: B of document 01.
 pub(crate) fn bursts_above(t: Table, p: usize) -> u64
-    requires { ⌜ p ≤ maxPlaces ⌝ }
-    ensures sum { λ (r : ℕ). ⌜ r ≡ burstsAbove p (t .requestors) ⌝ }
-    ensures small { λ (r : ℕ). ⌜ r ≤ p * 4294967295 ⌝ }
+    requires { ⌜ (p ≤ maxPlaces) × (burstsAbove p (t .requestors) < 2 ^ 64) ⌝ }
+    ensures { λ r. ⌜ r ≡ burstsAbove p (t .requestors) ⌝ }
 {
     let columns = columns_of(t);
     let bursts = columns.bursts;
@@ -62,9 +60,8 @@ pub(crate) fn bursts_above(t: Table, p: usize) -> u64
 
 // The sum of the rates above p; R of document 01 is D less this.
 pub(crate) fn rates_above(t: Table, p: usize) -> u64
-    requires { ⌜ p ≤ maxPlaces ⌝ }
-    ensures sum { λ (r : ℕ). ⌜ r ≡ ratesAbove p (t .requestors) ⌝ }
-    ensures small { λ (r : ℕ). ⌜ r ≤ p * 4294967295 ⌝ }
+    requires { ⌜ (p ≤ maxPlaces) × (ratesAbove p (t .requestors) < 2 ^ 64) ⌝ }
+    ensures { λ r. ⌜ r ≡ ratesAbove p (t .requestors) ⌝ }
 {
     let columns = columns_of(t);
     let rates = columns.rates;

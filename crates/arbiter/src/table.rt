@@ -10,24 +10,24 @@ use crate::units::Slots;
 use crate::units::Transfers;
 ghost use mathlib.Core.Path.{_≡_};
 ghost use mathlib.Core.List.{[]};
-ghost use Prim.Native.Nat.{_≤_};
+ghost use Prim.Native.Nat.{_≤_, _<_, _^_};
 ghost use lib.ListN.{drop};
-ghost use Rattle.lists.specs.Sums.{every};
+ghost use Rattle.lists.specs.Sums.{total, every};
 ghost use Rattle.arbiter.specs.Limits.{maxPlaces};
 ghost use Rattle.arbiter.specs.Refusals.{verdictOf};
-ghost use Rattle.arbiter.specs.Table.{noRequestor, tableOf, requestorClear, tailVerdict, rateSumVerdict, requestorsOf, rowVerdict, eachPlace, tableVerdict};
+ghost use Rattle.arbiter.specs.Table.{rate, noRequestor, tableOf, requestorClear, tailVerdict, rateSumVerdict, requestorsOf, rowVerdict, eachPlace, tableVerdict};
 
 // One row of the table: the rate n, the burst b, and the need of j transfers within L slots.
 pub struct Requestor {
-    pub rate: u32,
-    pub burst: u32,
+    pub rate: u64,
+    pub burst: u64,
     pub need: Transfers,
     pub within: Slots,
 }
 
 // D, N and the rows. Those past place N-1 must be 0: check 2.
 pub struct Table {
-    pub denominator: u32,
+    pub denominator: u64,
     pub count: usize,
     pub requestors: [Requestor; Arbiter::MAX_PLACES],
 }
@@ -45,7 +45,7 @@ pub fn no_requestor() -> Requestor
 }
 
 // A table of D and N whose rows are all 0.
-pub fn bare_table(d: u32, n: usize) -> Table
+pub fn bare_table(d: u64, n: usize) -> Table
     ensures { λ t. ⌜ t ≡ tableOf maxPlaces d n [] ⌝ }
 {
     let none = no_requestor();
@@ -57,7 +57,7 @@ pub fn bare_table(d: u32, n: usize) -> Table
     }
 }
 
-fn is_clear(r: Requestor) -> bool
+pub fn is_clear(r: Requestor) -> bool
     ensures { λ b. ⌜ b ≡ requestorClear r ⌝ }
 {
     let need = r.need;
@@ -91,14 +91,14 @@ fn rest_is_clear(t: Table) -> bool
 }
 
 // Checks 3, 4 and 5 of the requestor at place p.
-fn check_row(d: u32, p: usize, r: Requestor) -> Verdict
+pub fn check_row(d: u64, p: usize, r: Requestor) -> Verdict
     ensures { λ v. ⌜ verdictOf v ≡ rowVerdict d p r ⌝ }
 {
     let j = r.need;
     let l = r.within;
-    let rate = Bounds::of_rate(d, p).hold(r.rate as u64);
-    let burst = Bounds::of_burst(d, p).hold(r.burst as u64);
-    let need = Bounds::of_need(p).hold(j.0 as u64);
+    let rate = Bounds::of_rate(d, p).hold(r.rate);
+    let burst = Bounds::of_burst(d, p).hold(r.burst);
+    let need = Bounds::of_need(p).hold(j.0);
     let within = Bounds::of_within(p).hold(l.0);
     first_fault(rate, first_fault(burst, first_fault(need, within)))
 }
@@ -142,33 +142,36 @@ fn check_tail(t: Table) -> Verdict
 
 // Check 6.
 fn check_rate_sum(t: Table) -> Verdict
-    requires { ⌜ t .count ≤ maxPlaces ⌝ }
+    requires { ⌜ (t .count ≤ maxPlaces) × (total rate (requestorsOf t) < 2 ^ 64) ⌝ }
     ensures { λ v. ⌜ verdictOf v ≡ rateSumVerdict t ⌝ }
 {
     let d = t.denominator;
     let n = t.count;
-    if rates_above(t, n) <= (d as u64) {
+    if rates_above(t, n) <= d {
         return Verdict::Faultless;
     }
     Verdict::Fault(Cause::Input(InputRefusal::RateSum))
 }
 
-// Checks 1 to 6.
+// Checks 1 to 6. Rates are added up once each of them is known to be at most D.
 pub(crate) fn check_table(t: Table) -> Verdict
     ensures { λ v. ⌜ verdictOf v ≡ tableVerdict maxPlaces t ⌝ }
 {
     let d = t.denominator;
     let n = t.count;
-    let denominator = Bounds::of_denominator().hold(d as u64);
+    let denominator = Bounds::of_denominator().hold(d);
     let count = Bounds::of_count().hold(n as u64);
     let limits = first_fault(denominator, count);
     match limits {
         Verdict::Fault(_) => limits,
         Verdict::Faultless => {
             let tail = check_tail(t);
-            let rows = check_rows(t);
-            let sum = check_rate_sum(t);
-            first_fault(tail, first_fault(rows, sum))
+            let each = check_rows(t);
+            let rows = first_fault(tail, each);
+            match rows {
+                Verdict::Fault(_) => rows,
+                Verdict::Faultless => check_rate_sum(t),
+            }
         }
     }
 }

@@ -2,4 +2,4 @@
 
 pub struct Slots(pub u64);
 
-pub struct Transfers(pub u32);
+pub struct Transfers(pub u64);

@@ -107,19 +107,19 @@ pub fn state(s: Arbiter) {
     let p = a.backlog;
     let q = b.backlog;
     let slot = s.slot;
-    told(CREDITS, a.credit as u64);
-    number(b.credit as u64);
-    told(BACKLOGS, p.0 as u64);
-    number(q.0 as u64);
+    told(CREDITS, a.credit);
+    number(b.credit);
+    told(BACKLOGS, p.0);
+    number(q.0);
     told(SLOT, slot.0);
 }
 
 fn requestor(r: Requestor) {
     let j = r.need;
     let l = r.within;
-    number(r.rate as u64);
-    number(r.burst as u64);
-    number(j.0 as u64);
+    number(r.rate);
+    number(r.burst);
+    number(j.0);
     number(l.0);
 }
 
@@ -127,7 +127,7 @@ fn requestor(r: Requestor) {
 pub fn table(t: Table) {
     let first = t.requestors[0];
     let second = t.requestors[1];
-    told(TABLE, t.denominator as u64);
+    told(TABLE, t.denominator);
     number(t.count as u64);
     requestor(first);
     requestor(second);

@@ -9,7 +9,7 @@ use arbiter::units::Slots;
 use arbiter::units::Transfers;
 
 // A rate n, a burst b, and the need of one transfer within l slots.
-pub fn row(n: u32, b: u32, l: u64) -> Requestor {
+pub fn row(n: u64, b: u64, l: u64) -> Requestor {
     Requestor {
         rate: n,
         burst: b,
@@ -18,13 +18,13 @@ pub fn row(n: u32, b: u32, l: u64) -> Requestor {
     }
 }
 
-pub fn one_place(d: u32, r: Requestor) -> Table {
+pub fn one_place(d: u64, r: Requestor) -> Table {
     let mut t = bare_table(d, 1);
     t.requestors[0] = r;
     t
 }
 
-pub fn two_places(d: u32, first: Requestor, second: Requestor) -> Table {
+pub fn two_places(d: u64, first: Requestor, second: Requestor) -> Table {
     let mut t = bare_table(d, 2);
     t.requestors[0] = first;
     t.requestors[1] = second;
@@ -36,7 +36,7 @@ pub fn t() -> Table {
     two_places(4, row(1, 8, 4), row(1, 4, 7))
 }
 
-pub fn account(credit: u32, backlog: u32) -> Account {
+pub fn account(credit: u64, backlog: u64) -> Account {
     Account {
         credit: credit,
         backlog: Transfers(backlog),

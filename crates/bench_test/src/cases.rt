@@ -83,7 +83,7 @@ fn case_7() {
     admits(two_places(4, row(3, 4, 1000), row(1, 4, 1000)));
 }
 
-fn admits_one(k: u64, d: u32, burst: u32) {
+fn admits_one(k: u64, d: u64, burst: u64) {
     case(k);
     admits(one_place(d, row(1, burst, 1000000)));
 }

@@ -1,4 +1,4 @@
--- What a sound state leaves room for: the index of a place is inside the arrays, and a credit and a rate add up within 32 bits.
+-- What a sound state leaves room for: the index of a place is inside the arrays, and a credit and a rate add up within 64 bits.
 -- Assumes nothing.
 use Prim.Native.Nat.{ℕ, _+_, _^_, _≤_, _<_}
 use native.Mathlib.Omega.{arith}
@@ -13,7 +13,7 @@ module _ (s : Arbiter) (v : Sound maxPlaces s) where
   pub places-fit : s .table .count ≤ maxPlaces
   places-fit = sound-fair maxPlaces s v .count-most
 
-  pub sum-fits : (p : ℕ) → p < s .table .count → accountAt p (s .accounts) .credit + requestorAt p (s .table .requestors) .rate < 2 ^ 32
+  pub sum-fits : (p : ℕ) → p < s .table .count → accountAt p (s .accounts) .credit + requestorAt p (s .table .requestors) .rate < 2 ^ 64
   sum-fits p h =
       let f = sound-fair maxPlaces s v in
       let row = getD-take (s .table .count) (s .table .requestors) p noRequestor h in

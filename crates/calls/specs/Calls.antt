@@ -73,7 +73,7 @@ outcome v s c = resolve v (done s c) (λ r. record { state = s; answer = refused
 unfoldable pub ruled : Arbiter → Call → Result Arbiter Answer
 ruled s c = outcome (ruleVerdict s c) s c
 
--- a call with its checks in order, 23 first; `limit` is the largest N
+-- a call with its checks in order, 23 first; `limit` is how many places there is room for
 unfoldable pub called : ℕ → Arbiter → Call → Result Arbiter Answer
 called limit s c = outcome (gate (refusal 23) (sound limit s) (ruleVerdict s c)) s c
 

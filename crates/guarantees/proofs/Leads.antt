@@ -20,7 +20,8 @@ use Rattle.arbiter.specs.declared.table.Table.{Table}
 use Rattle.arbiter.specs.Answers.{Answer, accepted, granted, idle, refused}
 use Rattle.arbiter.specs.Table.{rate, burst, noRequestor, requestorAt, requestorsOf}
 use Rattle.arbiter.specs.Figures.{burstsAbove, rateLeft}
-use Rattle.leads.specs.Lead.{bytesEqual, leadOf, leadIn}
+use Rattle.lead_parts.specs.Counts.{bytesEqual}
+use Rattle.leads.specs.Lead.{leadOf, leadIn}
 use Rattle.arbiter.proofs.Sound.{sound-open}
 use Rattle.rule.specs.declared.rule.Grant.{Grant}
 use Rattle.rule.specs.declared.rule.Grant.the-variants.{Nobody, Place}

@@ -2,11 +2,8 @@
 -- of the log. Checks: 23, 11, 13.
 use mathlib.Core.List.{List}
 use Prim.Native.Nat.{ℕ, _*_}
-use lib.Dec.{eqb}
 use lib.IntN.{ℤ, pos, _-ℤ_}
 use lib.ListN.{length}
-use Rattle.lists.specs.Choices.{pick}
-use Rattle.lists.specs.Sums.{total}
 use Rattle.arbiter.specs.declared.refusals.Refusal.{Refusal}
 use Rattle.arbiter.specs.declared.table.Table.{Table}
 use Rattle.arbiter.specs.declared.state.Arbiter.{Arbiter}
@@ -14,12 +11,9 @@ use Rattle.arbiter.specs.Refusals.{Verdict, refusalOf, then, resolve}
 use Rattle.arbiter.specs.Table.{requestorAt}
 use Rattle.arbiter.specs.State.{placeVerdict}
 use Rattle.arbiter.specs.Input.{inputVerdict}
+use Rattle.lead_parts.specs.Counts.{bytesEqual}
 use Rattle.leads.specs.declared.LeadAnswer as code
 use Rattle.leads.specs.declared.LeadAnswer.the-variants as code-answer
-
--- the log bytes equal to p
-abbrev pub bytesEqual : ℕ → List ℕ → ℕ
-bytesEqual p log = total (λ x. pick (eqb x p) 1 0) log
 
 -- the lead of place p with rate n
 unfoldable pub leadOf : (d n p : ℕ) → List ℕ → ℤ
@@ -36,7 +30,7 @@ pub data LeadAnswer : Type 0 where
 unfoldable pub leadVerdict : ℕ → Arbiter → (place bytes : ℕ) → Verdict
 leadVerdict limit s p bytes = then (placeVerdict limit s p) (inputVerdict bytes)
 
--- `limit` is the largest N
+-- `limit` is how many places there is room for
 unfoldable pub leadAsked : ℕ → Arbiter → (place : ℕ) → List ℕ → LeadAnswer
 leadAsked limit s p log =
     resolve (leadVerdict limit s p (length log))

@@ -6,43 +6,16 @@ use arbiter::refusals::Verdict;
 use arbiter::refusals::first_fault;
 use arbiter::state::Arbiter;
 use arbiter::units::Slots;
-use arbiter::units::Transfers;
+use lead_parts::count_grants;
+use lead_parts::difference;
 ghost use mathlib.Core.Path.{_≡_};
-ghost use Prim.Native.Nat.{_*_, _≤_};
-ghost use lib.IntN.{pos, _-ℤ_};
-ghost use lib.ListN.{length};
-ghost use Rattle.arbiter.specs.Limits.{maxPlaces, maxDenominator, maxInput};
-ghost use Rattle.leads.specs.Lead.{bytesEqual, leadAsked, leadAnswerOf};
+ghost use Rattle.arbiter.specs.Limits.{maxPlaces};
+ghost use Rattle.leads.specs.Lead.{leadAsked, leadAnswerOf};
 
 // The lead, or why there is none.
 pub enum LeadAnswer {
     Lead(i64),
     Refused(Cause),
-}
-
-// The transfers that a log grants to place p: its bytes equal to p.
-fn count_grants(log: &[u8], p: usize) -> Transfers
-    requires { ⌜ length (now log) ≤ maxInput ⌝ }
-    ensures { λ g. ⌜ g .0 ≡ bytesEqual p (now (log .entry)) ⌝ }
-{
-    let mut k: u32 = 0;
-    let mut i: usize = 0;
-    while i < log.len() {
-        let x = log[i] as usize;
-        if x == p {
-            k = k + 1;
-        }
-        i = i + 1;
-    }
-    Transfers(k)
-}
-
-// D times the grants, less n times the slots.
-fn difference(d: u32, grants: Transfers, n: u32, slots: Slots) -> i64
-    requires { ⌜ (d ≤ maxDenominator) × (grants .0 ≤ maxInput) × (n ≤ maxDenominator) × (slots .0 ≤ maxInput) ⌝ }
-    ensures { λ r. ⌜ r ≡ pos (d * grants .0) -ℤ pos (n * slots .0) ⌝ }
-{
-    (d as i64) * (grants.0 as i64) - (n as i64) * (slots.0 as i64)
 }
 
 // Refused: 23, 11, 13.

@@ -66,7 +66,7 @@ fn put_credits(s: Arbiter, out: &mut [u8]) -> usize
     let mut p: usize = 0;
     while p < n {
         let a = s.accounts[p];
-        at = at + put_item(a.credit as u64, &mut out[at..]);
+        at = at + put_item(a.credit, &mut out[at..]);
         p = p + 1;
     }
     at

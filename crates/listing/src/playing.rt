@@ -20,7 +20,7 @@ fn post_counts(s: Arbiter, counts: &[u32]) -> PostResult
     let mut p: usize = 0;
     while p < counts.len() {
         let count = counts[p];
-        let done = post(state, p, Transfers(count));
+        let done = post(state, p, Transfers(count as u64));
         let next = done.state;
         let answer = done.answer;
         match answer {

@@ -1,25 +1,25 @@
 -- The calls on lent words as the calls by value, one by one and in a row; and what was not carried out. Assumes nothing.
 use mathlib.Core.Path.{_≡_, refl, ap, sym, _∙_}
 use mathlib.Core.Bool.{Bool, true, false, _&&_}
-use mathlib.Core.List.{List, [], _∷_, _++_}
-use Prim.Native.Nat.{ℕ, zero, suc, _+_, _*_, _≤_}
+use mathlib.Core.List.{List, [], _∷_}
+use Prim.Native.Nat.{ℕ, _≤_}
 use native.Mathlib.Omega.{arith}
 use borrow.Author.Tests.{eq-eqb}
 use lib.Dec.{eqb}
 use lib.IntN.{ℤ}
-use lib.ListN.{length, replicate, length-replicate, length-map, length-set, replicate-append-replicate}
+use lib.ListN.{length, replicate, length-replicate, length-map, length-set}
 use Rattle.lists.specs.Choices.{pick}
-use Rattle.lists.specs.Sums.{joined}
 use Rattle.lists.specs.Overwriting.{writtenOver}
 use Rattle.lists.specs.Runs.{Result, end, answers}
 use Rattle.lists.proofs.Tests.{cases, true-false, and-true, true-and}
 use Rattle.lists.proofs.Overwriting.{length-over}
 use Rattle.arbiter.specs.declared.refusals.Refusal.{Refusal}
+use Rattle.arbiter.specs.declared.state.Account.{Account}
 use Rattle.arbiter.specs.declared.state.Arbiter.{Arbiter}
 use Rattle.arbiter.specs.declared.table.Table.{Table}
 use Rattle.arbiter.specs.Refusals.{Verdict, faultless, fault, refusal, gate, then, resolve}
 use Rattle.arbiter.specs.Answers.{Answer, accepted, granted, idle, refused, unless}
-use Rattle.arbiter.specs.Table.{noRequestor, tableOf, denominatorBounds, countBounds, requestorsOf, rowNumbers}
+use Rattle.arbiter.specs.Table.{noRequestor, tableOf, denominatorBounds, countBounds, requestorsOf}
 use Rattle.arbiter.specs.State.{noAccount, sound, Shaped, placeVerdict}
 use Rattle.arbiter.specs.Start.{fresh, opening, noState, startVerdict, start}
 use Rattle.arbiter.specs.Asked as asked
@@ -28,20 +28,26 @@ use Rattle.leads.specs.Lead as leads
 use Rattle.table_bytes.specs.Reading.{Read, read, stop, next, fieldRead, rowsRead, placesRead, numbersRead, lastVerdict, TableRead, accept, refuse, settled, readTable}
 use Rattle.table_bytes.specs.Writing as writing
 use Rattle.table_bytes.proofs.Accepted.{next-open, read-same, field-open, rows-open}
-use Rattle.calls.specs.Calls.{Call, post, slot, grantOf, advanced, withPost, done, ruleVerdict, outcome, called}
-use Rattle.run.specs.Log.{Outcome, run}
-use Rattle.run.proofs.Slots.{after-length}
+use Rattle.rule.specs.declared.rule.Grant.{Grant}
+use Rattle.rule.specs.declared.rule.Grant.the-variants.{Nobody, Place}
+use Rattle.calls.specs.Calls.{Call, post, slot, grantOf, advanced, withPost, slotAnswer, done, ruleVerdict, outcome, called}
 use Rattle.calls.proofs.Verdicts.{called-unsound}
+use Rattle.run.specs.Log.{Outcome, slotsState, slotsLog, runVerdict, run}
+use Rattle.run.proofs.Slots.{after-length}
 use Rattle.run.proofs.Logs.{run-unsound}
-use Rattle.words.specs.Words.{accountWords, stateWords, wordCount, wordsState, rightLength, rowFrom}
-use Rattle.words.specs.Numbers.{allNumbers, numbersRow, numbersTable, rightNumbers}
-use Rattle.boundary.specs.Boundary.{refusalCode, answerCode, wrongLength, onState, stated, begun, posted, leaves, started, startedOf, slotWords, slotStated, slotted, runStated, ran, figuresTold, figured, leadTold, led, Wrote, writeCode, writeTold, wrote}
-use Rattle.boundary.specs.Places.{Told}
-use Rattle.on_words.specs.Claims.{Post-by-value, Start-by-value, Starts-agree, Slot-by-value, Run-by-value, Figures-by-value, Lead-by-value, Write-by-value, lentCall, lastTold, In-a-row, Exactly-255, Lengths, Wrong-length, Broken, Broken-words, Start-shaped, Start-of-numbers-shaped, Refused, Clears, Post-refused, Slot-refused, Run-refused, Figures-refused, Lead-refused, Write-refused, Start-refused, Start-of-numbers-refused}
-use Rattle.words.proofs.Items.{length-places}
-use Rattle.words.proofs.RoundTrip.{words-read-back, numbers-read-back}
-use Rattle.boundary.proofs.Boundary.{same-words, called-refused, ran-refused}
-use Rattle.boundary.proofs.Places.{code-apart, start-names-below, table-start-names-below, calls-name-below, runs-name-below, leads-name-below, figures-name-below, write-names-below}
+use Rattle.layout.specs.Words.{wordCount, roomOf, rightLength, stateWords, stateOf}
+use Rattle.layout.specs.Numbers.{allNumbers, numbersRow, numbersTable, rightNumbers}
+use Rattle.layout.proofs.Items.{length-places}
+use Rattle.layout.proofs.RoundTrip.{right, words-read-back, words-of, state-written-back}
+use Rattle.layout.proofs.Stores.{zero-state}
+use Rattle.layout.proofs.TableNumbers.{numbers-read-back}
+use Rattle.starts.specs.Starts.{turnedDown, begun}
+use Rattle.asking.specs.Look as look
+use Rattle.outcomes.specs.Outcomes.{refusalCode, answerCode, wrongLength}
+use Rattle.outcomes.specs.Places.{Told}
+use Rattle.outcomes.proofs.Places.{code-apart, start-names-below, table-start-names-below, calls-name-below, runs-name-below, leads-name-below, figures-name-below, write-names-below, looks-name-below, standings-name-below}
+use Rattle.justrave.specs.Exported.{onState, Stated, posted, slotWords, Slotted, slotted, Ran, ran, leaves, started, startedOf, Figured, figuresTold, figured, lookTold, accountTold, stands, standingTold, leadTold, Led, led, Wrote, writeTold, wrote}
+use Rattle.on_words.specs.Claims.{Fits, Post-by-value, Start-by-value, Starts-agree, Slot-by-value, Run-by-value, Figures-by-value, Account-by-value, Standing-by-value, Lead-by-value, Write-by-value, lentCall, lastTold, In-a-row, Exactly-255, Lengths, Wrong-length, Broken, Broken-words, Start-shaped, Start-of-numbers-shaped, Refused, Clears, Post-refused, Slot-refused, Run-refused, Figures-refused, Account-refused, Standing-refused, Lead-refused, Write-refused, Start-refused, Start-of-numbers-refused}
 
 and-one : (b : Bool) → (b && true) ≡ b
 and-one true = refl
@@ -50,54 +56,68 @@ and-one false = refl
 -- ---- one call
 
 -- a call on a state's words is the call on the state
-module _ {X : Type 0} (limit : ℕ) (s : Arbiter) (fits : Bool) (down : X) (call : Arbiter → X) where
-  on-words : Shaped limit s → fits ≡ true → onState limit (stateWords s) fits down call ≡ call s
+module _ {X : Type 0} (most room : ℕ) (s : Arbiter) (beside : Bool) (down : X) (call : ℕ → Arbiter → X) where
+  on-words : Fits most room s → beside ≡ true → onState most (stateWords s) beside down call ≡ call room s
   unfolding onState
-  on-words v f = let back = words-read-back limit s v in rw (true-and _ _ (back .0) f, back .1)
+  on-words v b =
+      let back = words-read-back most room s (v .shaped) (v .some) (v .few) in
+      rw (true-and _ _ (back .0) b, back .1, back .2)
 
 pub post-by-value : Post-by-value
 unfolding posted
-post-by-value limit s p count v = on-words limit s true _ (λ t. stated (called limit t (post p count))) v refl
+post-by-value most room s p count v = on-words most room s true _ _ v refl
 
 pub start-by-value : Start-by-value
 unfolding startedOf leaves
-start-by-value limit t first words rows long = let back = numbers-read-back limit t rows in rw (long, back .0, back .1)
+start-by-value most t first words long rows = let back = numbers-read-back (roomOf words) t rows in rw (long, back .0, back .1)
 
 pub slot-by-value : Slot-by-value
 unfolding slotted
-slot-by-value limit s old v two =
-    on-words limit s (eqb (length old) 2) _ (λ t. slotStated old (called limit t slot)) v (eq-eqb (length old) 2 two)
+slot-by-value most room s old v two = on-words most room s (eqb (length old) 2) _ _ v (eq-eqb (length old) 2 two)
 
 pub run-by-value : Run-by-value
 unfolding ran
-run-by-value limit s log v = on-words limit s true _ (λ t. runStated (run limit t log)) v refl
+run-by-value most room s log v = on-words most room s true _ _ v refl
 
 pub figures-by-value : Figures-by-value
 unfolding figured
-figures-by-value limit s p j old v two =
-    on-words limit s (eqb (length old) 2) _ (λ t. figuresTold old (asked.figures limit t p j)) v (eq-eqb (length old) 2 two)
+figures-by-value most room s p j old v two = on-words most room s (eqb (length old) 2) _ _ v (eq-eqb (length old) 2 two)
+
+pub account-by-value : Account-by-value
+unfolding accountTold
+account-by-value most room s p old v two = on-words most room s (eqb (length old) 2) _ _ v (eq-eqb (length old) 2 two)
+
+pub standing-by-value : Standing-by-value
+unfolding standingTold
+standing-by-value most room s old v two = on-words most room s (eqb (length old) 2) _ _ v (eq-eqb (length old) 2 two)
 
 pub lead-by-value : Lead-by-value
 unfolding led
-lead-by-value limit s p log old v one =
-    on-words limit s (eqb (length old) 1) _ (λ t. leadTold old (leads.leadAsked limit t p log)) v (eq-eqb (length old) 1 one)
+lead-by-value most room s p log old v one = on-words most room s (eqb (length old) 1) _ _ v (eq-eqb (length old) 1 one)
 
 pub write-by-value : Write-by-value
 unfolding wrote
-write-by-value limit s buffer old v one ok =
-    on-words limit s (eqb (length old) 1) _ _ v (eq-eqb (length old) 1 one) ∙ rw ok
+write-by-value most room s buffer old v one ok = on-words most room s (eqb (length old) 1) _ _ v (eq-eqb (length old) 1 one) ∙ rw ok
 
 -- ---- calls in a row
 
--- a call keeps the arrays' lengths
-outcome-shaped : (limit : ℕ) (v : Verdict) (s : Arbiter) (c : Call) → Shaped limit s → Shaped limit (outcome v s c .state)
-unfolding done withPost advanced
-outcome-shaped limit faultless s (post p count) h = record { rows = h .rows; accounts = simp length-set (h .accounts) }
-outcome-shaped limit faultless s slot h = record {
+-- a slot keeps the arrays' lengths, and so does a call
+pub slot-shaped : (room : ℕ) (s : Arbiter) (g : Grant) → Shaped room s → Shaped room (advanced s g)
+unfolding advanced
+slot-shaped room s g h = record {
   rows = h .rows;
-  accounts = after-length (s .table .denominator) (grantOf s) (requestorsOf (s .table)) (s .accounts) ∙ h .accounts;
+  accounts = after-length (s .table .denominator) g (requestorsOf (s .table)) (s .accounts) ∙ h .accounts;
 }
-outcome-shaped limit (fault r) s c h = h
+
+outcome-shaped : (room : ℕ) (v : Verdict) (s : Arbiter) (c : Call) → Shaped room s → Shaped room (outcome v s c .state)
+unfolding done withPost
+outcome-shaped room faultless s (post p count) h = record { rows = h .rows; accounts = simp length-set (h .accounts) }
+outcome-shaped room faultless s slot h = slot-shaped room s (grantOf s) h
+outcome-shaped room (fault r) s c h = h
+
+pub call-shaped : (room : ℕ) (s : Arbiter) (c : Call) → Shaped room s → Shaped room (called room s c .state)
+unfolding called
+call-shaped room s c h = outcome-shaped room (gate (refusal 23) (sound room s) (ruleVerdict s c)) s c h
 
 -- a post leaves the lent answer
 post-answer : (v : Verdict) (s : Arbiter) (p count : ℕ) (old : List ℕ) → slotWords old (outcome v s (post p count) .answer) ≡ old
@@ -112,378 +132,404 @@ answer-long old (granted stamp p) two = refl
 answer-long old (idle stamp) two = refl
 answer-long old (refused r) two = two
 
-module _ (limit : ℕ) where
-  call-shaped : (s : Arbiter) (c : Call) → Shaped limit s → Shaped limit (called limit s c .state)
-  unfolding called
-  call-shaped s c v = outcome-shaped limit (gate (refusal 23) (sound limit s) (ruleVerdict s c)) s c v
+module _ (most room : ℕ) where
+  call-fits : (s : Arbiter) (c : Call) → Fits most room s → Fits most room (called room s c .state)
+  call-fits s c v = record { shaped = call-shaped room s c (v .shaped); some = v .some; few = v .few }
 
-  one-call : (s : Arbiter) (c : Call) (old : List ℕ) → Shaped limit s → length old ≡ 2
-      → lentCall limit (record { words = stateWords s; answer = old }) c
-      ≡ record { state = record { words = stateWords (called limit s c .state); answer = slotWords old (called limit s c .answer) }; answer = answerCode (called limit s c .answer) }
+  one-call : (s : Arbiter) (c : Call) (old : List ℕ) → Fits most room s → length old ≡ 2
+      → lentCall most (record { words = stateWords s; answer = old }) c
+      ≡ record { state = record { words = stateWords (called room s c .state); answer = slotWords old (called room s c .answer) }; answer = answerCode (called room s c .answer) }
   unfolding called
   one-call s (post p count) old v two =
-      rw (post-by-value limit s p count v, post-answer (gate (refusal 23) (sound limit s) (ruleVerdict s (post p count))) s p count old)
-  one-call s slot old v two = rw (slot-by-value limit s old v two)
+      rw (post-by-value most room s p count v, post-answer (gate (refusal 23) (sound room s) (ruleVerdict s (post p count))) s p count old)
+  one-call s slot old v two = rw (slot-by-value most room s old v two)
 
 pub in-a-row : In-a-row
 unfolding end answers lastTold
-in-a-row limit s old [] v two = (refl, refl)
-in-a-row limit s old (c ∷ calls) v two =
-    let a = called limit s c .answer in
-    let more = in-a-row limit (called limit s c .state) (slotWords old a) calls (call-shaped limit s c v) (answer-long old a two) in
-    (rw (one-call limit s c old v two) (more .0), rw (one-call limit s c old v two) (ap (λ l. answerCode a ∷ l) (more .1)))
+in-a-row most room s old [] v two = (refl, refl)
+in-a-row most room s old (c ∷ calls) v two =
+    let a = called room s c .answer in
+    let more = in-a-row most room (called room s c .state) (slotWords old a) calls (call-fits most room s c v) (answer-long old a two) in
+    (rw (one-call most room s c old v two) (more .0), rw (one-call most room s c old v two) (ap (λ l. answerCode a ∷ l) (more .1)))
 
 -- ---- the state that a start leaves
 
-none-shaped : (limit : ℕ) → Shaped limit (noState limit)
+none-shaped : (room : ℕ) → Shaped room (noState room)
 unfolding noState tableOf writtenOver
-none-shaped limit = record { rows = length-replicate limit noRequestor; accounts = length-replicate limit noAccount }
+none-shaped room = record { rows = length-replicate room noRequestor; accounts = length-replicate room noAccount }
 
-start-of : (limit : ℕ) (t : Table) (first : ℕ) → length (t .requestors) ≡ limit → Shaped limit (start limit t first .state)
+start-of : (room : ℕ) (t : Table) (first : ℕ) → length (t .requestors) ≡ room → Shaped room (start room t first .state)
 unfolding start opening
-start-of limit t first rows = by (startVerdict limit t first)
+start-of room t first rows = by (startVerdict room t first)
   where
-    opened : Shaped limit (opening t first)
-    opened = record { rows = rows; accounts = length-map (t .requestors) fresh ∙ rows }
-
     made : Verdict → Result Arbiter Answer
-    made v = resolve v (record { state = opening t first; answer = accepted }) (λ r. record { state = noState limit; answer = refused r })
+    made v = resolve v (record { state = opening t first; answer = accepted }) (turnedDown room)
 
-    by : (v : Verdict) → Shaped limit (made v .state)
-    by faultless = opened
-    by (fault r) = none-shaped limit
+    by : (v : Verdict) → Shaped room (made v .state)
+    by faultless = record { rows = rows; accounts = length-map (t .requestors) fresh ∙ rows }
+    by (fault r) = none-shaped room
 
-module _ (limit : ℕ) where
-  -- a table that was read has as many rows as the largest N
-  places-long : (d n : ℕ) (bytes : List ℕ) (t : Table) (rest : List ℕ) → n ≤ limit → placesRead limit d n bytes ≡ read t rest
-      → length (t .requestors) ≡ limit
+module _ (room : ℕ) where
+  -- a table that was read has as many rows as there is room for
+  places-long : (d n : ℕ) (bytes : List ℕ) (t : Table) (rest : List ℕ) → n ≤ room → placesRead room d n bytes ≡ read t rest
+      → length (t .requestors) ≡ room
   unfolding placesRead tableOf
   places-long d n bytes t rest few e =
-      let o = next-open (rowsRead n d 0 bytes) (λ rows l. read (tableOf limit d n rows) l) t rest e in
-      let same = read-same (tableOf limit d n (o .value)) t (o .left) rest (o .second) .0 in
+      let o = next-open (rowsRead n d 0 bytes) (λ rows l. read (tableOf room d n rows) l) t rest e in
+      let same = read-same (tableOf room d n (o .value)) t (o .left) rest (o .second) .0 in
       let count = rows-open n d 0 bytes (o .value) (o .left) (o .first) .count in
-      let old = replicate limit noRequestor in
-      let long = length-replicate limit noRequestor in
+      let old = replicate room noRequestor in
+      let long = length-replicate room noRequestor in
       ap (λ x. length (x .requestors)) (sym same) ∙ length-over (o .value) old (omega arith) ∙ long
 
-  numbers-long : (bytes : List ℕ) (t : Table) (rest : List ℕ) → numbersRead limit bytes ≡ read t rest → length (t .requestors) ≡ limit
+  numbers-long : (bytes : List ℕ) (t : Table) (rest : List ℕ) → numbersRead room bytes ≡ read t rest → length (t .requestors) ≡ room
   unfolding numbersRead
   numbers-long bytes t rest e =
-      let a = next-open (fieldRead denominatorBounds bytes) (λ d l. next (fieldRead (countBounds limit) l) λ n m. placesRead limit d n m) t rest e in
-      let b = next-open (fieldRead (countBounds limit) (a .left)) (λ n m. placesRead limit (a .value) n m) t rest (a .second) in
+      let a = next-open (fieldRead denominatorBounds bytes) (λ d l. next (fieldRead (countBounds room) l) λ n m. placesRead room d n m) t rest e in
+      let b = next-open (fieldRead (countBounds room) (a .left)) (λ n m. placesRead room (a .value) n m) t rest (a .second) in
       places-long (a .value) (b .value) (b .left) t rest
-      (held-open (countBounds limit) (b .value) (field-open (countBounds limit) (a .left) (b .value) (b .left) (b .first) .held) .1) (b .second)
+      (held-open (countBounds room) (b .value) (field-open (countBounds room) (a .left) (b .value) (b .left) (b .first) .held) .1) (b .second)
 
-  settled-long : (x : Read Table) → ((t : Table) (rest : List ℕ) → x ≡ read t rest → length (t .requestors) ≡ limit)
-      → length (settled limit x .table .requestors) ≡ limit
+  settled-long : (x : Read Table) → ((t : Table) (rest : List ℕ) → x ≡ read t rest → length (t .requestors) ≡ room)
+      → length (settled room x .table .requestors) ≡ room
   unfolding settled tableOf writtenOver
-  settled-long (stop r) h = length-replicate limit noRequestor
+  settled-long (stop r) h = length-replicate room noRequestor
   settled-long (read t rest) h = by (lastVerdict t rest)
     where
-      by : (v : Verdict) → length (resolve {X = TableRead} v (accept t) (refuse limit) .table .requestors) ≡ limit
+      by : (v : Verdict) → length (resolve {X = TableRead} v (accept t) (refuse room) .table .requestors) ≡ room
       by faultless = h t rest refl
-      by (fault r) = length-replicate limit noRequestor
+      by (fault r) = length-replicate room noRequestor
 
-  read-long : (bytes : List ℕ) → length (readTable limit bytes .table .requestors) ≡ limit
+  pub read-long : (bytes : List ℕ) → length (readTable room bytes .table .requestors) ≡ room
   unfolding readTable
-  read-long bytes = settled-long (numbersRead limit bytes) (numbers-long bytes)
+  read-long bytes = settled-long (numbersRead room bytes) (numbers-long bytes)
 
 pub start-shaped : Start-shaped
 unfolding begun
-start-shaped limit bytes first = by (readTable limit bytes .answer)
+start-shaped room bytes first = by (readTable room bytes .answer)
   where
-    made : Shaped limit (start limit (readTable limit bytes .table) first .state)
-    made = start-of limit (readTable limit bytes .table) first (read-long limit bytes)
+    made : Shaped room (start room (readTable room bytes .table) first .state)
+    made = start-of room (readTable room bytes .table) first (read-long room bytes)
 
-    by : (a : Answer)
-        → Shaped limit (unless a (λ r. record { state = noState limit; answer = refused r }) (start limit (readTable limit bytes .table) first) .state)
+    by : (a : Answer) → Shaped room (unless a (turnedDown room) (start room (readTable room bytes .table) first) .state)
     by accepted = made
     by (granted stamp p) = made
     by (idle stamp) = made
-    by (refused r) = none-shaped limit
+    by (refused r) = none-shaped room
 
 pub starts-agree : Starts-agree
 unfolding started startedOf begun
-starts-agree limit bytes first words e =
-    let t = readTable limit bytes .table in
-    let back = numbers-read-back limit t (read-long limit bytes) in
-    let lengths : (rightLength limit words && rightNumbers limit (allNumbers t)) ≡ rightLength limit words = rw (back .0) (and-one (rightLength limit words)) in
+starts-agree most bytes first words e =
+    let t = readTable (roomOf words) bytes .table in
+    let back = numbers-read-back (roomOf words) t (read-long (roomOf words) bytes) in
+    let lengths : (rightLength most words && rightNumbers (roomOf words) (allNumbers t)) ≡ rightLength most words = rw (back .0) (and-one (rightLength most words)) in
     rw (e, lengths, back .1)
 
-pub start-of-numbers-shaped : Start-of-numbers-shaped
+pub numbers-rows : (room : ℕ) (numbers : List ℕ) → length (numbersTable room numbers .requestors) ≡ room
 unfolding numbersTable
-start-of-numbers-shaped limit numbers first =
-    start-of limit (numbersTable limit numbers) first (length-places (λ p. rowFrom numbers (numbersRow p)) 0 limit)
+numbers-rows room numbers = length-places (numbersRow numbers) 0 room
+
+pub start-of-numbers-shaped : Start-of-numbers-shaped
+start-of-numbers-shaped room numbers first = start-of room (numbersTable room numbers) first (numbers-rows room numbers)
+
+-- ---- what a call comes to
+
+-- it was carried out, or turned down by a refusal of document 01's, and then all stands
+data Ends (room outcome : ℕ) (Stands : Type 0) : Type 0 where
+  went : outcome ≡ 0 → Ends room outcome Stands
+  turned : (r : Refusal) → Told room r → outcome ≡ refusalCode r → Stands → Ends room outcome Stands
+
+module _ {room outcome : ℕ} {Stands : Type 0} where
+  all-stands : Ends room outcome Stands → Refused outcome → Stands
+  all-stands (went e) h = absurd (h e)
+  all-stands (turned r t e s) h = s
+
+  never-255 : Ends room outcome Stands → outcome ≡ wrongLength → ⊥
+  never-255 (went e) f = omega arith
+  never-255 (turned r t e s) f = code-apart room r t .1 (sym e ∙ f)
+
+module _ (room : ℕ) (s : Arbiter) where
+  -- a slot's answer is written nowhere where the slot was refused
+  abbrev Stands : Result Arbiter Answer → Type 0
+  Stands r = (r .state ≡ s) × ((old : List ℕ) → slotWords old (r .answer) ≡ old)
+
+  outcome-ends : (v : Verdict) (c : Call) → ((r : Refusal) → outcome v s c .answer ≡ refused r → Told room r)
+      → Ends room (answerCode (outcome v s c .answer)) (Stands (outcome v s c))
+  unfolding done
+  outcome-ends faultless (post p count) t = went refl
+  outcome-ends faultless slot t = went (by (grantOf s))
+    where
+      by : (g : Grant) → answerCode (slotAnswer (s .slot .0) g) ≡ 0
+      by Nobody = refl
+      by (Place p) = refl
+  outcome-ends (fault r) c t = turned r (t r refl) refl (refl, λ old. refl)
+
+  call-ends : (c : Call) → Ends room (answerCode (called room s c .answer)) (Stands (called room s c))
+  unfolding called
+  call-ends c = outcome-ends (gate (refusal 23) (sound room s) (ruleVerdict s c)) c (calls-name-below room s c)
+
+  run-ends : (log : List ℕ) → Ends room (answerCode (run room s log .answer)) ((run room s log .state ≡ s) × (run room s log .log ≡ log))
+  unfolding run
+  run-ends log = by (runVerdict room s (length log)) (runs-name-below room s log)
+    where
+      made : Verdict → Outcome
+      made v =
+          resolve v (record { state = slotsState (length log) s; answer = accepted; log = slotsLog (length log) s })
+          (λ r. record { state = s; answer = refused r; log = log })
+
+      by : (v : Verdict) → ((r : Refusal) → made v .answer ≡ refused r → Told room r)
+          → Ends room (answerCode (made v .answer)) ((made v .state ≡ s) × (made v .log ≡ log))
+      by faultless t = went refl
+      by (fault r) t = turned r (t r refl) refl (refl, refl)
+
+  figures-ends : (p j : ℕ) (old : List ℕ) → let d = figuresTold old (asked.figures room s p j) in Ends room (d .outcome) (d .answer ≡ old)
+  figures-ends p j old = by (asked.figures room s p j) (figures-name-below room s p j)
+    where
+      by : (a : asked.FiguresAnswer) → ((r : Refusal) → a ≡ asked.refused r → Told room r) → Ends room (figuresTold old a .outcome) (figuresTold old a .answer ≡ old)
+      by (asked.figured wait finish) t = went refl
+      by (asked.refused r) t = turned r (t r refl) refl refl
+
+  account-ends : (p : ℕ) (old : List ℕ) → let d = lookTold old (look.accountAsked room s p) in Ends room (d .outcome) (d .answer ≡ old)
+  account-ends p old = by (look.accountAsked room s p) (looks-name-below room s p)
+    where
+      by : (a : look.Told Account) → ((r : Refusal) → a ≡ look.refused r → Told room r) → Ends room (lookTold old a .outcome) (lookTold old a .answer ≡ old)
+      by (look.told x) t = went refl
+      by (look.refused r) t = turned r (t r refl) refl refl
+
+  standing-ends : (old : List ℕ) → let d = stands old (look.standing room s) in Ends room (d .outcome) (d .answer ≡ old)
+  standing-ends old = by (look.standing room s) (standings-name-below room s)
+    where
+      by : (a : look.Told look.Standing) → ((r : Refusal) → a ≡ look.refused r → Told room r) → Ends room (stands old a .outcome) (stands old a .answer ≡ old)
+      by (look.told x) t = went refl
+      by (look.refused r) t = turned r (t r refl) refl refl
+
+  lead-ends : (p : ℕ) (log : List ℕ) (old : List ℤ) → let d = leadTold old (leads.leadAsked room s p log) in Ends room (d .outcome) (d .answer ≡ old)
+  lead-ends p log old = by (leads.leadAsked room s p log) (leads-name-below room s p log)
+    where
+      by : (a : leads.LeadAnswer) → ((r : Refusal) → a ≡ leads.refused r → Told room r) → Ends room (leadTold old a .outcome) (leadTold old a .answer ≡ old)
+      by (leads.lead x) t = went refl
+      by (leads.refused r) t = turned r (t r refl) refl refl
+
+  abbrev writing-call : (buffer old : List ℕ) → Wrote
+  writing-call buffer old =
+      pick (sound room s) (writeTold old (writing.writeTable room (s .table) buffer))
+      (record { buffer = buffer; answer = old; outcome = refusalCode (refusal 23) })
+
+  write-ends : (buffer old : List ℕ) → let d = writing-call buffer old in Ends room (d .outcome) ((d .buffer ≡ buffer) × (d .answer ≡ old))
+  unfolding writing.writeTable
+  write-ends buffer old =
+      cases (sound room s)
+      (λ q. rw q (by (writing.writeVerdict room (s .table) (length buffer)) (write-names-below room (s .table) buffer)))
+      (λ q. rw q (turned (refusal 23) (record { number = refl; names = refl; origin = refl; place = tt }) refl (refl, refl)))
+    where
+      made : Verdict → writing.TableWritten
+      made v =
+          resolve v (record { answer = writing.wrote (length (writing.tableBytes (s .table))); buffer = writtenOver (writing.tableBytes (s .table)) buffer })
+          (λ r. record { answer = writing.refused r; buffer = buffer })
+
+      by : (v : Verdict) → ((r : Refusal) → made v .answer ≡ writing.refused r → Told room r)
+          → let d = writeTold old (made v) in Ends room (d .outcome) ((d .buffer ≡ buffer) × (d .answer ≡ old))
+      by faultless t = went refl
+      by (fault r) t = turned r (t r refl) refl (refl, refl)
 
 -- ---- what was not carried out
 
--- what holds where the length is wrong, and of the call on the words' state, holds of a call on lent words
-on-state : {X : Type 0} (P : X → Type 0) (limit : ℕ) (words : List ℕ) (fits : Bool) (down : X) (call : Arbiter → X) → P down
-    → (rightLength limit words ≡ true → P (call (wordsState limit words))) → P (onState limit words fits down call)
-unfolding onState
-on-state P limit words fits down call a b = cases (rightLength limit words && fits)
-    (λ q. rw q (b (and-true (rightLength limit words) fits q .0)))
-    (λ q. rw q a)
+module _ {X : Type 0} (out : X → ℕ) (most : ℕ) (words : List ℕ) (beside : Bool) (down : X) (call : ℕ → Arbiter → X) where
+  abbrev here : X
+  here = call (roomOf words) (stateOf words)
 
--- an answer whose outcome is not 0 is a refusal
-by-refusal : {X : Type 0} (a : Answer) → Refused (answerCode a) → ((r : Refusal) → a ≡ refused r → X) → X
-by-refusal accepted h f = absurd (h refl)
-by-refusal (granted stamp p) h f = absurd (h refl)
-by-refusal (idle stamp) h f = absurd (h refl)
-by-refusal (refused r) h f = f r refl
-
-pub post-refused : Post-refused
-unfolding posted
-post-refused limit words p count =
-    on-state (λ x. Refused (x .outcome) → x .words ≡ words) limit words true _ (λ s. stated (called limit s (post p count))) (λ h. refl) (λ long h.
-    let s = wordsState limit words in
-    let d = called limit s (post p count) in
-    by-refusal (d .answer) h (λ r e. sym (same-words limit words (d .state) long (called-refused limit s (post p count) r d refl e))))
-
-pub slot-refused : Slot-refused
-unfolding slotted
-slot-refused limit words old =
-    on-state (λ x. Refused (x .outcome) → (x .words ≡ words) × (x .answer ≡ old)) limit words (eqb (length old) 2) _
-    (λ s. slotStated old (called limit s slot)) (λ h. (refl, refl)) (λ long h.
-    let s = wordsState limit words in
-    let d = called limit s slot in
-    by-refusal (d .answer) h (λ r e. (sym (same-words limit words (d .state) long (called-refused limit s slot r d refl e)), ap (slotWords old) e)))
-
-pub run-refused : Run-refused
-unfolding ran
-run-refused limit words log =
-    on-state (λ x. Refused (x .outcome) → (x .words ≡ words) × (x .log ≡ log)) limit words true _
-    (λ s. runStated (run limit s log)) (λ h. (refl, refl)) (λ long h.
-    let s = wordsState limit words in
-    let d = run limit s log in
-    by-refusal (d .answer) h (λ r e. let same = ran-refused limit s log r d refl e in (sym (same-words limit words (d .state) long (same .0)), same .1)))
-
-pub figures-refused : Figures-refused
-unfolding figured
-figures-refused limit words p j old =
-    on-state (λ x. Refused (x .outcome) → x .answer ≡ old) limit words (eqb (length old) 2) _
-    (λ s. figuresTold old (asked.figures limit s p j)) (λ h. refl)
-    (λ long. by (asked.figures limit (wordsState limit words) p j))
-  where
-    by : (d : asked.FiguresAnswer) → Refused (figuresTold old d .outcome) → figuresTold old d .answer ≡ old
-    by (asked.figured wait finish) h = absurd (h refl)
-    by (asked.refused r) h = refl
-
-pub lead-refused : Lead-refused
-unfolding led
-lead-refused limit words p log old =
-    on-state (λ x. Refused (x .outcome) → x .answer ≡ old) limit words (eqb (length old) 1) _
-    (λ s. leadTold old (leads.leadAsked limit s p log)) (λ h. refl)
-    (λ long. by (leads.leadAsked limit (wordsState limit words) p log))
-  where
-    by : (d : leads.LeadAnswer) → Refused (leadTold old d .outcome) → leadTold old d .answer ≡ old
-    by (leads.lead x) h = absurd (h refl)
-    by (leads.refused r) h = refl
-
-pub write-refused : Write-refused
-unfolding wrote writing.writeTable
-write-refused limit words buffer old =
-    on-state (λ (x : Wrote). Refused (x .outcome) → (x .buffer ≡ buffer) × (x .answer ≡ old)) limit words (eqb (length old) 1) _ _ (λ h. (refl, refl))
-    (λ long. by (sound limit (wordsState limit words)) (wordsState limit words .table))
-  where
-    written : Table → Verdict → writing.TableWritten
-    written t v =
-        resolve v
-        (record { answer = writing.wrote (length (writing.tableBytes t)); buffer = writtenOver (writing.tableBytes t) buffer })
-        (λ r. record { answer = writing.refused r; buffer = buffer })
-
-    told : (t : Table) (v : Verdict) → Refused (writeTold old (written t v) .outcome)
-        → (writeTold old (written t v) .buffer ≡ buffer) × (writeTold old (written t v) .answer ≡ old)
-    told t faultless h = absurd (h refl)
-    told t (fault r) h = (refl, refl)
-
-    picked : Bool → Table → Wrote
-    picked ok t =
-        pick ok (writeTold old (written t (writing.writeVerdict limit t (length buffer))))
-        (record { buffer = buffer; answer = old; outcome = refusalCode (refusal 23) })
-
-    by : (ok : Bool) (t : Table) → Refused (picked ok t .outcome) → (picked ok t .buffer ≡ buffer) × (picked ok t .answer ≡ old)
-    by true t h = told t (writing.writeVerdict limit t (length buffer)) h
-    by false t h = (refl, refl)
-
--- the outcome of an answer whose refusals are document 01's
-code-never : (limit : ℕ) (a : Answer) → ((r : Refusal) → a ≡ refused r → Told limit r) → answerCode a ≡ wrongLength → ⊥
-code-never limit accepted t e = absurd (omega arith)
-code-never limit (granted stamp p) t e = absurd (omega arith)
-code-never limit (idle stamp) t e = absurd (omega arith)
-code-never limit (refused r) t e = code-apart limit r (t r refl) .1 e
-
--- ---- a refused start
-
--- the words of the state whose every field is 0
-clear-rows : (n : ℕ) → joined rowNumbers (replicate n noRequestor) ≡ replicate (4 * n) 0
-unfolding joined
-clear-rows zero = refl
-clear-rows (suc n) = let more : 4 * suc n ≡ suc (suc (suc (suc (4 * n)))) = omega arith in rw (more, clear-rows n)
-
-clear-accounts : (n : ℕ) → joined accountWords (replicate n noAccount) ≡ replicate (2 * n) 0
-unfolding joined
-clear-accounts zero = refl
-clear-accounts (suc n) = let more : 2 * suc n ≡ suc (suc (2 * n)) = omega arith in rw (more, clear-accounts n)
-
-clear-words : (limit : ℕ) → stateWords (noState limit) ≡ replicate (wordCount limit) 0
-unfolding stateWords noState tableOf writtenOver
-clear-words limit =
-    rw (clear-rows limit, clear-accounts limit)
-    (ap (λ l. l ++ replicate (2 * limit) 0) (replicate-append-replicate 3 (4 * limit) 0) ∙ replicate-append-replicate (3 + 4 * limit) (2 * limit) 0)
-
-started-none : (limit : ℕ) (t : Table) (first : ℕ) (r : Refusal) → start limit t first .answer ≡ refused r → start limit t first .state ≡ noState limit
-unfolding start
-started-none limit t first r e = by (startVerdict limit t first) e
-  where
-    made : Verdict → Result Arbiter Answer
-    made v = resolve v (record { state = opening t first; answer = accepted }) (λ q. record { state = noState limit; answer = refused q })
-
-    by : (v : Verdict) → made v .answer ≡ refused r → made v .state ≡ noState limit
-    by faultless f = let z : _≡_ {A = ℕ} 0 1 = cc in absurd (omega arith)
-    by (fault q) f = refl
-
-begun-none : (limit : ℕ) (t : TableRead) (first : ℕ) (r : Refusal) → begun limit t first .answer ≡ refused r → begun limit t first .state ≡ noState limit
-unfolding begun
-begun-none limit t first r e = by (t .answer) e
-  where
-    made : Answer → Result Arbiter Answer
-    made a = unless a (λ q. record { state = noState limit; answer = refused q }) (start limit (t .table) first)
-
-    by : (a : Answer) → made a .answer ≡ refused r → made a .state ≡ noState limit
-    by accepted f = started-none limit (t .table) first r f
-    by (granted stamp p) f = started-none limit (t .table) first r f
-    by (idle stamp) f = started-none limit (t .table) first r f
-    by (refused q) f = refl
-
--- whatever made it
-module _ (limit : ℕ) (lengths : Bool) (words : List ℕ) (d : Result Arbiter Answer) where
-  clears : ((r : Refusal) → d .answer ≡ refused r → d .state ≡ noState limit) → ((r : Refusal) → d .answer ≡ refused r → Told limit r)
-      → Clears limit words (leaves lengths words d)
-  unfolding leaves
-  clears none tells = cases lengths
-      (λ q. rw q ((λ h k. by-refusal (d .answer) h (λ r e. ap stateWords (none r e) ∙ clear-words limit)), λ e. absurd (code-never limit (d .answer) tells e)))
-      (λ q. rw q ((λ h k. absurd (k refl)), λ e. refl))
-
-pub start-refused : Start-refused
-unfolding started
-start-refused limit bytes first words =
-    clears limit (rightLength limit words) words (begun limit (readTable limit bytes) first)
-    (begun-none limit (readTable limit bytes) first) (start-names-below limit bytes first)
-
-pub start-of-numbers-refused : Start-of-numbers-refused
-unfolding startedOf
-start-of-numbers-refused limit numbers first words =
-    let t = numbersTable limit numbers in
-    clears limit (rightLength limit words && rightNumbers limit numbers) words (start limit t first)
-    (started-none limit t first) (table-start-names-below limit t first)
-
--- ---- 255 and 23
-
-module _ {X : Type 0} (limit : ℕ) (words : List ℕ) (fits : Bool) (down : X) (call : Arbiter → X) (out : X → ℕ) where
-  exactly : out down ≡ wrongLength → (out (call (wordsState limit words)) ≡ wrongLength → ⊥)
-      → Exactly-255 (rightLength limit words && fits) (out (onState limit words fits down call))
+  -- what stands where the length is wrong, and where the call on the words' state is refused
+  left : (Stands : X → Type 0) → Stands down → (rightLength most words ≡ true → Refused (out here) → Stands here)
+      → Refused (out (onState most words beside down call)) → Stands (onState most words beside down call)
   unfolding onState
-  exactly e never = cases (rightLength limit words && fits)
+  left Stands a b = cases (rightLength most words && beside)
+      (λ q. rw q (b (and-true (rightLength most words) beside q .0)))
+      (λ q. rw q (λ h. a))
+
+  -- 255 is the length's
+  exactly : out down ≡ wrongLength → (out here ≡ wrongLength → ⊥) → Exactly-255 (rightLength most words && beside) (out (onState most words beside down call))
+  unfolding onState
+  exactly e never = cases (rightLength most words && beside)
       (λ q. rw q ((λ f. true-false f), λ f. absurd (never f)))
       (λ q. rw q ((λ f. e), λ f. refl))
 
-figures-never : (limit : ℕ) (old : List ℕ) (a : asked.FiguresAnswer) → ((r : Refusal) → a ≡ asked.refused r → Told limit r) → figuresTold old a .outcome ≡ wrongLength → ⊥
-figures-never limit old (asked.figured wait finish) t e = absurd (omega arith)
-figures-never limit old (asked.refused r) t e = code-apart limit r (t r refl) .1 e
+-- a state handed back is the same words
+module _ (most : ℕ) (words : List ℕ) (long : rightLength most words ≡ true) where
+  handed-back : (s : Arbiter) → s ≡ stateOf words → stateWords s ≡ words
+  handed-back s e = ap stateWords e ∙ state-written-back most words long
 
-lead-never : (limit : ℕ) (old : List ℤ) (a : leads.LeadAnswer) → ((r : Refusal) → a ≡ leads.refused r → Told limit r) → leadTold old a .outcome ≡ wrongLength → ⊥
-lead-never limit old (leads.lead x) t e = absurd (omega arith)
-lead-never limit old (leads.refused r) t e = code-apart limit r (t r refl) .1 e
+pub post-refused : Post-refused
+unfolding posted
+post-refused most words p count =
+    left (λ (x : Stated). x .outcome) most words true _ _ (λ (x : Stated). x .words ≡ words) refl
+    (λ long h. handed-back most words long _ (all-stands (call-ends (roomOf words) (stateOf words) (post p count)) h .0))
 
-write-never : (limit : ℕ) (a : writing.WriteAnswer) → ((r : Refusal) → a ≡ writing.refused r → Told limit r) → writeCode a ≡ wrongLength → ⊥
-write-never limit (writing.wrote bytes) t e = absurd (omega arith)
-write-never limit (writing.refused r) t e = code-apart limit r (t r refl) .1 e
+pub slot-refused : Slot-refused
+unfolding slotted
+slot-refused most words old =
+    left (λ (x : Slotted). x .outcome) most words (eqb (length old) 2) _ _ (λ (x : Slotted). (x .words ≡ words) × (x .answer ≡ old)) (refl, refl)
+    (λ long h. let same = all-stands (call-ends (roomOf words) (stateOf words) slot) h in (handed-back most words long _ (same .0), same .1 old))
 
-leaves-length : (limit : ℕ) (lengths : Bool) (words : List ℕ) (d : Result Arbiter Answer) → ((r : Refusal) → d .answer ≡ refused r → Told limit r)
-    → Exactly-255 lengths (leaves lengths words d .outcome)
-unfolding leaves
-leaves-length limit lengths words d tells = cases lengths
-    (λ q. rw q ((λ f. true-false f), λ f. absurd (code-never limit (d .answer) tells f)))
-    (λ q. rw q ((λ f. refl), λ f. refl))
+pub run-refused : Run-refused
+unfolding ran
+run-refused most words log =
+    left (λ (x : Ran). x .outcome) most words true _ _ (λ (x : Ran). (x .words ≡ words) × (x .log ≡ log)) (refl, refl)
+    (λ long h. let same = all-stands (run-ends (roomOf words) (stateOf words) log) h in (handed-back most words long _ (same .0), same .1))
 
-module _ (limit : ℕ) (words : List ℕ) where
-  abbrev here : Arbiter
-  here = wordsState limit words
+pub figures-refused : Figures-refused
+unfolding figured
+figures-refused most words p j old =
+    left (λ (x : Figured). x .outcome) most words (eqb (length old) 2) _ _ (λ (x : Figured). x .answer ≡ old) refl
+    (λ long. all-stands (figures-ends (roomOf words) (stateOf words) p j old))
+
+pub account-refused : Account-refused
+unfolding accountTold
+account-refused most words p old =
+    left (λ (x : Figured). x .outcome) most words (eqb (length old) 2) _ _ (λ (x : Figured). x .answer ≡ old) refl
+    (λ long. all-stands (account-ends (roomOf words) (stateOf words) p old))
+
+pub standing-refused : Standing-refused
+unfolding standingTold
+standing-refused most words old =
+    left (λ (x : Figured). x .outcome) most words (eqb (length old) 2) _ _ (λ (x : Figured). x .answer ≡ old) refl
+    (λ long. all-stands (standing-ends (roomOf words) (stateOf words) old))
+
+pub lead-refused : Lead-refused
+unfolding led
+lead-refused most words p log old =
+    left (λ (x : Led). x .outcome) most words (eqb (length old) 1) _ _ (λ (x : Led). x .answer ≡ old) refl
+    (λ long. all-stands (lead-ends (roomOf words) (stateOf words) p log old))
+
+pub write-refused : Write-refused
+unfolding wrote
+write-refused most words buffer old =
+    left (λ (x : Wrote). x .outcome) most words (eqb (length old) 1) _ _ (λ (x : Wrote). (x .buffer ≡ buffer) × (x .answer ≡ old)) (refl, refl)
+    (λ long. all-stands (write-ends (roomOf words) (stateOf words) buffer old))
+
+-- ---- a refused start
+
+start-ends : (room : ℕ) (t : Table) (first : ℕ) → Ends room (answerCode (start room t first .answer)) (start room t first .state ≡ noState room)
+unfolding start
+start-ends room t first = by (startVerdict room t first) (table-start-names-below room t first)
+  where
+    made : Verdict → Result Arbiter Answer
+    made v = resolve v (record { state = opening t first; answer = accepted }) (turnedDown room)
+
+    by : (v : Verdict) → ((r : Refusal) → made v .answer ≡ refused r → Told room r) → Ends room (answerCode (made v .answer)) (made v .state ≡ noState room)
+    by faultless t = went refl
+    by (fault r) t = turned r (t r refl) refl refl
+
+begun-ends : (room : ℕ) (bytes : List ℕ) (first : ℕ)
+    → let d = begun room (readTable room bytes) first in Ends room (answerCode (d .answer)) (d .state ≡ noState room)
+unfolding begun
+begun-ends room bytes first = by (readTable room bytes .answer) (start-names-below room bytes first)
+  where
+    goes-on : Result Arbiter Answer
+    goes-on = start room (readTable room bytes .table) first
+
+    by : (a : Answer) → ((r : Refusal) → unless a (turnedDown room) goes-on .answer ≡ refused r → Told room r)
+        → Ends room (answerCode (unless a (turnedDown room) goes-on .answer)) (unless a (turnedDown room) goes-on .state ≡ noState room)
+    by accepted t = start-ends room (readTable room bytes .table) first
+    by (granted stamp p) t = start-ends room (readTable room bytes .table) first
+    by (idle stamp) t = start-ends room (readTable room bytes .table) first
+    by (refused r) t = turned r (t r refl) refl refl
+
+-- the words of the state whose every field is 0
+clear-words : (most : ℕ) (words : List ℕ) → rightLength most words ≡ true → stateWords (noState (roomOf words)) ≡ replicate (length words) 0
+clear-words most words long =
+    let n = length words in
+    let all : length {A = ℕ} (replicate n 0) ≡ wordCount (roomOf words) = length-replicate n 0 ∙ right most words long .long in
+    sym (words-of (roomOf words) (replicate n 0) (noState (roomOf words)) all (zero-state (roomOf words) n))
+
+-- whatever made it
+module _ (most : ℕ) (words : List ℕ) (lengths : Bool) (d : Result Arbiter Answer) (ends : Ends (roomOf words) (answerCode (d .answer)) (d .state ≡ noState (roomOf words))) where
+  clears : (lengths ≡ true → rightLength most words ≡ true) → Clears words (leaves lengths words d)
+  unfolding leaves
+  clears long = cases lengths
+      (λ q. rw q ((λ h k. ap stateWords (all-stands ends h) ∙ clear-words most words (long q)), λ e. absurd (never-255 ends e)))
+      (λ q. rw q ((λ h k. absurd (k refl)), λ e. refl))
+
+  leaves-255 : Exactly-255 lengths (leaves lengths words d .outcome)
+  unfolding leaves
+  leaves-255 = cases lengths
+      (λ q. rw q ((λ f. true-false f), λ f. absurd (never-255 ends f)))
+      (λ q. rw q ((λ f. refl), λ f. refl))
+
+pub start-refused : Start-refused
+unfolding started
+start-refused most bytes first words = clears most words (rightLength most words) _ (begun-ends (roomOf words) bytes first) (λ long. long)
+
+pub start-of-numbers-refused : Start-of-numbers-refused
+unfolding startedOf
+start-of-numbers-refused most numbers first words =
+    clears most words (rightLength most words && rightNumbers (roomOf words) numbers) _ (start-ends (roomOf words) (numbersTable (roomOf words) numbers) first)
+    (λ all. and-true (rightLength most words) (rightNumbers (roomOf words) numbers) all .0)
+
+-- ---- 255 and 23
+
+module _ (most : ℕ) (words : List ℕ) where
+  abbrev room : ℕ
+  room = roomOf words
+
+  abbrev held : Arbiter
+  held = stateOf words
 
   -- of a call that is lent no answer the words' length alone counts
-  words-only : (outcome : ℕ) → Exactly-255 (rightLength limit words && true) outcome → Exactly-255 (rightLength limit words) outcome
-  words-only outcome e = rw (and-one (rightLength limit words)) at e
+  words-only : (outcome : ℕ) → Exactly-255 (rightLength most words && true) outcome → Exactly-255 (rightLength most words) outcome
+  words-only outcome e = rw (and-one (rightLength most words)) at e
 
-  call-length : (c : Call) → answerCode (called limit here c .answer) ≡ wrongLength → ⊥
-  call-length c = code-never limit (called limit here c .answer) (calls-name-below limit here c)
-
-  written-length : (buffer old : List ℕ)
-      → pick (sound limit here) (writeTold old (writing.writeTable limit (here .table) buffer)) (record { buffer = buffer; answer = old; outcome = refusalCode (refusal 23) }) .outcome ≡ wrongLength
-      → ⊥
-  unfolding refusalCode
-  written-length buffer old = cases (sound limit here)
-      (λ q. rw q (write-never limit (writing.writeTable limit (here .table) buffer .answer) (write-names-below limit (here .table) buffer)))
-      (λ q. rw q (λ f. absurd (omega arith)))
-
-  lengths : Lengths limit words
-  unfolding started startedOf posted slotted ran figured led wrote
+  lengths : Lengths most words
+  unfolding started startedOf posted slotted ran figured accountTold standingTold led wrote
   lengths = record {
-    start = λ bytes first. leaves-length limit (rightLength limit words) words (begun limit (readTable limit bytes) first) (start-names-below limit bytes first);
-    numbers = λ numbers first. leaves-length limit (rightLength limit words && rightNumbers limit numbers) words (start limit (numbersTable limit numbers) first) (table-start-names-below limit (numbersTable limit numbers) first);
-    post = λ p count. words-only _ (exactly limit words true _ (λ s. stated (called limit s (post p count))) (λ x. x .outcome) refl (call-length (post p count)));
-    slot = λ old. exactly limit words (eqb (length old) 2) _ (λ s. slotStated old (called limit s slot)) (λ x. x .outcome) refl (call-length slot);
-    run = λ log. words-only _ (exactly limit words true _ (λ s. runStated (run limit s log)) (λ x. x .outcome) refl (code-never limit (run limit here log .answer) (runs-name-below limit here log)));
-    figures = λ p j old. exactly limit words (eqb (length old) 2) _ (λ s. figuresTold old (asked.figures limit s p j)) (λ x. x .outcome) refl (figures-never limit old (asked.figures limit here p j) (figures-name-below limit here p j));
-    lead = λ p log old. exactly limit words (eqb (length old) 1) _ (λ s. leadTold old (leads.leadAsked limit s p log)) (λ x. x .outcome) refl (lead-never limit old (leads.leadAsked limit here p log) (leads-name-below limit here p log));
-    write = λ buffer old. exactly limit words (eqb (length old) 1) _ _ (λ (x : Wrote). x .outcome) refl (written-length buffer old);
+    start = λ bytes first. leaves-255 most words (rightLength most words) _ (begun-ends room bytes first);
+    numbers = λ numbers first. leaves-255 most words (rightLength most words && rightNumbers room numbers) _ (start-ends room (numbersTable room numbers) first);
+    post = λ p count. words-only _ (exactly (λ (x : Stated). x .outcome) most words true _ _ refl (never-255 (call-ends room held (post p count))));
+    slot = λ old. exactly (λ (x : Slotted). x .outcome) most words (eqb (length old) 2) _ _ refl (never-255 (call-ends room held slot));
+    run = λ log. words-only _ (exactly (λ (x : Ran). x .outcome) most words true _ _ refl (never-255 (run-ends room held log)));
+    figures = λ p j old. exactly (λ (x : Figured). x .outcome) most words (eqb (length old) 2) _ _ refl (never-255 (figures-ends room held p j old));
+    account = λ p old. exactly (λ (x : Figured). x .outcome) most words (eqb (length old) 2) _ _ refl (never-255 (account-ends room held p old));
+    standing = λ old. exactly (λ (x : Figured). x .outcome) most words (eqb (length old) 2) _ _ refl (never-255 (standing-ends room held old));
+    lead = λ p log old. exactly (λ (x : Led). x .outcome) most words (eqb (length old) 1) _ _ refl (never-255 (lead-ends room held p log old));
+    write = λ buffer old. exactly (λ (x : Wrote). x .outcome) most words (eqb (length old) 1) _ _ refl (never-255 (write-ends room held buffer old));
   }
 
 pub wrong-length : Wrong-length
-wrong-length limit words = lengths limit words
+wrong-length most words = lengths most words
 
 -- the call on the state that the words are
-module _ {X : Type 0} (limit : ℕ) (words : List ℕ) (fits : Bool) (down : X) (call : Arbiter → X) where
-  on-call : rightLength limit words ≡ true → fits ≡ true → onState limit words fits down call ≡ call (wordsState limit words)
+module _ {X : Type 0} (most : ℕ) (words : List ℕ) (beside : Bool) (down : X) (call : ℕ → Arbiter → X) where
+  on-call : rightLength most words ≡ true → beside ≡ true → onState most words beside down call ≡ call (roomOf words) (stateOf words)
   unfolding onState
-  on-call long f = rw (true-and _ _ long f)
+  on-call long b = rw (true-and _ _ long b)
 
-module _ (limit : ℕ) (words : List ℕ) (long : rightLength limit words ≡ true) (broken : sound limit (wordsState limit words) ≡ false) where
-  abbrev held : Arbiter
-  held = wordsState limit words
+module _ (most : ℕ) (words : List ℕ) (long : rightLength most words ≡ true) (broken : sound (roomOf words) (stateOf words) ≡ false) where
+  abbrev s : Arbiter
+  s = stateOf words
 
   code-23 : refusalCode (refusal 23) ≡ 23
   unfolding refusalCode
   code-23 = refl
 
-  call-23 : (c : Call) → answerCode (called limit held c .answer) ≡ 23
-  call-23 c = ap (λ (r : Result Arbiter Answer). answerCode (r .answer)) (called-unsound limit held c broken) ∙ code-23
+  call-23 : (c : Call) → answerCode (called (roomOf words) s c .answer) ≡ 23
+  call-23 c = ap (λ (r : Result Arbiter Answer). answerCode (r .answer)) (called-unsound (roomOf words) s c broken) ∙ code-23
 
-  place-23 : (p : ℕ) → placeVerdict limit held p ≡ fault (refusal 23)
+  place-23 : (p : ℕ) → placeVerdict (roomOf words) s p ≡ fault (refusal 23)
   unfolding placeVerdict gate
   place-23 p = rw broken
 
-  figures-23 : (p j : ℕ) → asked.figures limit held p j ≡ asked.refused (refusal 23)
-  unfolding asked.figures asked.figuresVerdict then
-  figures-23 p j = rw (place-23 p)
-
-  lead-23 : (p : ℕ) (log : List ℕ) → leads.leadAsked limit held p log ≡ leads.refused (refusal 23)
-  unfolding leads.leadAsked leads.leadVerdict then
-  lead-23 p log = rw (place-23 p)
-
-  all-23 : Broken limit words
-  unfolding posted slotted ran figured led wrote
+  all-23 : Broken most words
+  unfolding posted slotted ran figured accountTold standingTold led wrote asked.figures asked.figuresVerdict look.accountAsked look.standing leads.leadAsked leads.leadVerdict gate then
   all-23 = record {
-    post = λ p count. ap (λ x. x .outcome) (on-call limit words true _ (λ s. stated (called limit s (post p count))) long refl) ∙ call-23 (post p count);
-    slot = λ old two. ap (λ x. x .outcome) (on-call limit words (eqb (length old) 2) _ (λ s. slotStated old (called limit s slot)) long (eq-eqb (length old) 2 two)) ∙ call-23 slot;
-    run = λ log. ap (λ x. x .outcome) (on-call limit words true _ (λ s. runStated (run limit s log)) long refl)
-        ∙ ap (λ (r : Outcome). answerCode (r .answer)) (sym (run-unsound limit held log held (refused (refusal 23)) broken refl refl)) ∙ code-23;
-    figures = λ p j old two. ap (λ x. x .outcome) (on-call limit words (eqb (length old) 2) _ (λ s. figuresTold old (asked.figures limit s p j)) long (eq-eqb (length old) 2 two))
-        ∙ ap (λ a. figuresTold old a .outcome) (figures-23 p j) ∙ code-23;
-    lead = λ p log old one. ap (λ x. x .outcome) (on-call limit words (eqb (length old) 1) _ (λ s. leadTold old (leads.leadAsked limit s p log)) long (eq-eqb (length old) 1 one))
-        ∙ ap (λ a. leadTold old a .outcome) (lead-23 p log) ∙ code-23;
-    write = λ buffer old one. ap (λ (x : Wrote). x .outcome) (on-call limit words (eqb (length old) 1) _ _ long (eq-eqb (length old) 1 one)) ∙ rw broken code-23;
+    post = λ p count. ap (λ (x : Stated). x .outcome) (on-call most words true _ _ long refl) ∙ call-23 (post p count);
+    slot = λ old two. ap (λ (x : Slotted). x .outcome) (on-call most words (eqb (length old) 2) _ _ long (eq-eqb (length old) 2 two)) ∙ call-23 slot;
+    run = λ log. ap (λ (x : Ran). x .outcome) (on-call most words true _ _ long refl)
+        ∙ ap (λ (r : Outcome). answerCode (r .answer)) (sym (run-unsound (roomOf words) s log s (refused (refusal 23)) broken refl refl)) ∙ code-23;
+    figures = λ p j old two. ap (λ (x : Figured). x .outcome) (on-call most words (eqb (length old) 2) _ _ long (eq-eqb (length old) 2 two)) ∙ rw (place-23 p) code-23;
+    account = λ p old two. ap (λ (x : Figured). x .outcome) (on-call most words (eqb (length old) 2) _ _ long (eq-eqb (length old) 2 two)) ∙ rw (place-23 p) code-23;
+    standing = λ old two. ap (λ (x : Figured). x .outcome) (on-call most words (eqb (length old) 2) _ _ long (eq-eqb (length old) 2 two)) ∙ rw broken code-23;
+    lead = λ p log old one. ap (λ (x : Led). x .outcome) (on-call most words (eqb (length old) 1) _ _ long (eq-eqb (length old) 1 one)) ∙ rw (place-23 p) code-23;
+    write = λ buffer old one. ap (λ (x : Wrote). x .outcome) (on-call most words (eqb (length old) 1) _ _ long (eq-eqb (length old) 1 one)) ∙ rw broken code-23;
   }
 
 pub broken-words : Broken-words
-broken-words limit words long broken = all-23 limit words long broken
+broken-words most words long broken = all-23 most words long broken

@@ -1,3 +1,6 @@
--- The claims, and the one proof that all rows pass.
+-- The claims, that room makes no difference, and the one proof that all rows pass.
 pub mod Claims
+pub mod Longer
+pub mod LongerStart
+pub mod Room
 pub mod Rows

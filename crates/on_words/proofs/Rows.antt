@@ -2,6 +2,7 @@
 -- proof and the words grow with the largest N. Assumes nothing.
 use mathlib.Core.Path.{refl}
 use Rattle.lists.specs.Sums.{total, joined, every, upTo}
+use Rattle.lists.specs.Pairs.{paired}
 use Rattle.lists.specs.Overwriting.{writtenOver}
 use Rattle.groups.specs.Groups.{lastGroup, combined, laterGroups, numberOf, groupsOf, numberBytes}
 use Rattle.arbiter.specs.Refusals.{gate, then}
@@ -17,38 +18,53 @@ use Rattle.table_bytes.specs.Writing.{tableNumbers, tableBytes, writeVerdict, w
 use Rattle.rule.specs.Rule.{eligible, later, firstEligible, served, passed, after}
 use Rattle.calls.specs.Calls.{grantOf, advanced, withCount, withPost, done, ruleVerdict, called}
 use Rattle.run.specs.Log.{slotsState, slotsLog, slotsVerdict, runVerdict, run}
-use Rattle.words.specs.Words.{stateWords, placesFrom, wordsState}
-use Rattle.words.specs.Numbers.{numbersTable}
-use Rattle.boundary.specs.Boundary.{refusalCode, onState, posted, begun, leaves, started, startedOf, slotted, ran, figured, led, wrote}
-use Rattle.on_words.specs.Rows.{twoPlaces, rated, startRows, numberRows, postRows, slotRows, runRows, askedRows, writeRows, Pass, All-pass}
+use Rattle.layout.specs.Words.{roomOf, rightLength, stateWords, placesFrom, wordsState}
+use Rattle.layout.specs.Numbers.{numbersTable}
+use Rattle.starts.specs.Starts.{begun}
+use Rattle.asking.specs.Look.{accountAsked, standing}
+use Rattle.outcomes.specs.Outcomes.{refusalCode}
+use Rattle.justrave.specs.Exported.{onState, posted, slotted, ran, leaves, started, startedOf, figured, accountTold, standingTold, led, wrote}
+use Rattle.on_words.specs.Rows.{wordsIn, startRows, numberRows, postRows, slotRows, runRows, askedRows, writeRows, lookRows, roomRows, lengthRows, Pass, Sizes, All-pass}
 
 start-pass : Pass startRows
-unfolding total joined every upTo writtenOver lastGroup combined laterGroups numberOf groupsOf numberBytes gate then tableOf heldTo rowVerdict eachPlace tailVerdict rateSumVerdict tableVerdict roundedUp finish finishVerdict admissionVerdict accountsHold sound placeVerdict opening noState startVerdict start figuresVerdict figures inputVerdict leadOf leadVerdict leadAsked next fieldRead rowRead itemsRead placesRead numbersRead lastVerdict settled readTable tableNumbers tableBytes writeVerdict writeTable eligible later firstEligible served passed after grantOf advanced withCount withPost done ruleVerdict called slotsState slotsLog slotsVerdict runVerdict run stateWords placesFrom wordsState refusalCode onState posted begun leaves started slotted ran figured led wrote twoPlaces rated startRows
+unfolding roomOf rightLength placesFrom wordsState stateWords joined paired refusalCode wordsIn total every gate then heldTo rowVerdict eachPlace tailVerdict rateSumVerdict tableVerdict roundedUp finish finishVerdict admissionVerdict tableOf writtenOver opening noState startVerdict start leaves lastGroup combined laterGroups numberOf next fieldRead rowRead itemsRead placesRead numbersRead lastVerdict settled readTable begun started startRows
 start-pass = refl
 
 number-pass : Pass numberRows
-unfolding total joined every upTo writtenOver lastGroup combined laterGroups numberOf groupsOf numberBytes gate then tableOf heldTo rowVerdict eachPlace tailVerdict rateSumVerdict tableVerdict roundedUp finish finishVerdict admissionVerdict accountsHold sound placeVerdict opening noState startVerdict start figuresVerdict figures inputVerdict leadOf leadVerdict leadAsked next fieldRead rowRead itemsRead placesRead numbersRead lastVerdict settled readTable tableNumbers tableBytes writeVerdict writeTable eligible later firstEligible served passed after grantOf advanced withCount withPost done ruleVerdict called slotsState slotsLog slotsVerdict runVerdict run stateWords placesFrom wordsState refusalCode onState posted numbersTable leaves startedOf slotted ran figured led wrote twoPlaces rated numberRows
+unfolding roomOf rightLength placesFrom wordsState stateWords joined paired refusalCode wordsIn total every gate then heldTo rowVerdict eachPlace tailVerdict rateSumVerdict tableVerdict roundedUp finish finishVerdict admissionVerdict tableOf writtenOver opening noState startVerdict start leaves numbersTable startedOf numberRows
 number-pass = refl
 
 post-pass : Pass postRows
-unfolding total joined every upTo writtenOver lastGroup combined laterGroups numberOf groupsOf numberBytes gate then tableOf heldTo rowVerdict eachPlace tailVerdict rateSumVerdict tableVerdict roundedUp finish finishVerdict admissionVerdict accountsHold sound placeVerdict opening noState startVerdict start figuresVerdict figures inputVerdict leadOf leadVerdict leadAsked next fieldRead rowRead itemsRead placesRead numbersRead lastVerdict settled readTable tableNumbers tableBytes writeVerdict writeTable eligible later firstEligible served passed after grantOf advanced withCount withPost done ruleVerdict called slotsState slotsLog slotsVerdict runVerdict run stateWords placesFrom wordsState refusalCode onState posted begun leaves started slotted ran figured led wrote twoPlaces rated postRows
+unfolding roomOf rightLength placesFrom wordsState stateWords joined paired refusalCode wordsIn total every gate then heldTo rowVerdict eachPlace tailVerdict rateSumVerdict tableVerdict upTo accountsHold sound withCount withPost done ruleVerdict called onState posted postRows
 post-pass = refl
 
 slot-pass : Pass slotRows
-unfolding total joined every upTo writtenOver lastGroup combined laterGroups numberOf groupsOf numberBytes gate then tableOf heldTo rowVerdict eachPlace tailVerdict rateSumVerdict tableVerdict roundedUp finish finishVerdict admissionVerdict accountsHold sound placeVerdict opening noState startVerdict start figuresVerdict figures inputVerdict leadOf leadVerdict leadAsked next fieldRead rowRead itemsRead placesRead numbersRead lastVerdict settled readTable tableNumbers tableBytes writeVerdict writeTable eligible later firstEligible served passed after grantOf advanced withCount withPost done ruleVerdict called slotsState slotsLog slotsVerdict runVerdict run stateWords placesFrom wordsState refusalCode onState posted begun leaves started slotted ran figured led wrote twoPlaces rated slotRows
+unfolding roomOf rightLength placesFrom wordsState stateWords joined paired refusalCode wordsIn total every gate then heldTo rowVerdict eachPlace tailVerdict rateSumVerdict tableVerdict upTo accountsHold sound eligible later firstEligible served passed after grantOf advanced done ruleVerdict called onState slotted slotRows
 slot-pass = refl
 
 run-pass : Pass runRows
-unfolding total joined every upTo writtenOver lastGroup combined laterGroups numberOf groupsOf numberBytes gate then tableOf heldTo rowVerdict eachPlace tailVerdict rateSumVerdict tableVerdict roundedUp finish finishVerdict admissionVerdict accountsHold sound placeVerdict opening noState startVerdict start figuresVerdict figures inputVerdict leadOf leadVerdict leadAsked next fieldRead rowRead itemsRead placesRead numbersRead lastVerdict settled readTable tableNumbers tableBytes writeVerdict writeTable eligible later firstEligible served passed after grantOf advanced withCount withPost done ruleVerdict called slotsState slotsLog slotsVerdict runVerdict run stateWords placesFrom wordsState refusalCode onState posted begun leaves started slotted ran figured led wrote twoPlaces rated runRows
+unfolding roomOf rightLength placesFrom wordsState stateWords joined paired refusalCode wordsIn total every gate then heldTo rowVerdict eachPlace tailVerdict rateSumVerdict tableVerdict upTo accountsHold sound eligible later firstEligible served passed after grantOf advanced inputVerdict slotsState slotsLog slotsVerdict runVerdict run onState ran runRows
 run-pass = refl
 
 asked-pass : Pass askedRows
-unfolding total joined every upTo writtenOver lastGroup combined laterGroups numberOf groupsOf numberBytes gate then tableOf heldTo rowVerdict eachPlace tailVerdict rateSumVerdict tableVerdict roundedUp finish finishVerdict admissionVerdict accountsHold sound placeVerdict opening noState startVerdict start figuresVerdict figures inputVerdict leadOf leadVerdict leadAsked next fieldRead rowRead itemsRead placesRead numbersRead lastVerdict settled readTable tableNumbers tableBytes writeVerdict writeTable eligible later firstEligible served passed after grantOf advanced withCount withPost done ruleVerdict called slotsState slotsLog slotsVerdict runVerdict run stateWords placesFrom wordsState refusalCode onState posted begun leaves started slotted ran figured led wrote twoPlaces rated askedRows
+unfolding roomOf rightLength placesFrom wordsState stateWords joined paired refusalCode wordsIn total every gate then heldTo rowVerdict eachPlace tailVerdict rateSumVerdict tableVerdict upTo accountsHold sound roundedUp finish placeVerdict figuresVerdict figures inputVerdict leadOf leadVerdict leadAsked onState figured led askedRows
 asked-pass = refl
 
 write-pass : Pass writeRows
-unfolding total joined every upTo writtenOver lastGroup combined laterGroups numberOf groupsOf numberBytes gate then tableOf heldTo rowVerdict eachPlace tailVerdict rateSumVerdict tableVerdict roundedUp finish finishVerdict admissionVerdict accountsHold sound placeVerdict opening noState startVerdict start figuresVerdict figures inputVerdict leadOf leadVerdict leadAsked next fieldRead rowRead itemsRead placesRead numbersRead lastVerdict settled readTable tableNumbers tableBytes writeVerdict writeTable eligible later firstEligible served passed after grantOf advanced withCount withPost done ruleVerdict called slotsState slotsLog slotsVerdict runVerdict run stateWords placesFrom wordsState refusalCode onState posted begun leaves started slotted ran figured led wrote twoPlaces rated writeRows
+unfolding roomOf rightLength placesFrom wordsState stateWords joined paired refusalCode wordsIn total every gate then heldTo rowVerdict eachPlace tailVerdict rateSumVerdict tableVerdict upTo accountsHold sound roundedUp finish finishVerdict admissionVerdict groupsOf numberBytes writtenOver tableNumbers tableBytes writeVerdict writeTable onState wrote writeRows
 write-pass = refl
 
+look-pass : Pass lookRows
+unfolding roomOf rightLength placesFrom wordsState stateWords joined paired refusalCode wordsIn total every gate then heldTo rowVerdict eachPlace tailVerdict rateSumVerdict tableVerdict upTo accountsHold sound placeVerdict accountAsked standing onState accountTold standingTold lookRows
+look-pass = refl
+
+room-pass : Pass roomRows
+unfolding roomOf rightLength placesFrom wordsState stateWords joined paired refusalCode wordsIn total every gate then heldTo rowVerdict eachPlace tailVerdict rateSumVerdict tableVerdict roundedUp finish finishVerdict admissionVerdict tableOf writtenOver opening noState startVerdict start leaves lastGroup combined laterGroups numberOf next fieldRead rowRead itemsRead placesRead numbersRead lastVerdict settled readTable begun started numbersTable startedOf upTo accountsHold sound eligible later firstEligible served passed after grantOf advanced withCount withPost done ruleVerdict called inputVerdict slotsState slotsLog slotsVerdict runVerdict run placeVerdict figuresVerdict figures accountAsked standing onState posted slotted ran figured accountTold standingTold roomRows
+room-pass = refl
+
+length-pass : Pass lengthRows
+unfolding roomOf rightLength placesFrom wordsState stateWords joined paired refusalCode wordsIn total every gate then heldTo rowVerdict eachPlace tailVerdict rateSumVerdict tableVerdict upTo accountsHold sound done ruleVerdict called onState posted lengthRows
+length-pass = refl
+
 pub all-pass : All-pass
-all-pass = (start-pass, number-pass, post-pass, slot-pass, run-pass, asked-pass, write-pass)
+all-pass = (start-pass, number-pass, post-pass, slot-pass, run-pass, asked-pass, write-pass, look-pass, room-pass, length-pass, refl)

@@ -1,41 +1,43 @@
 -- Worked examples of the calls on lent words, with document 01's table T and cases 2, 3 and 5. A row is a call, and what was lent and the
--- outcome after it; what is not in the paper was worked out by hand. A state of T is 99 words where the largest N is 16.
+-- outcome after it; what is not in the paper was worked out by hand. A state of T is 15 words in room for its 2 places, and 99 in room for
+-- 16, the largest N.
 use mathlib.Core.Path.{_≡_}
 use mathlib.Core.List.{List, [], _∷_, _++_, map}
 use Prim.Native.Nat.{ℕ, _+_, _-_, _*_}
 use lib.IntN.{ℤ, pos, negsuc}
 use lib.ListN.{replicate}
 use Rattle.arbiter.specs.Limits.{maxPlaces, maxSlot}
-use Rattle.words.specs.Words.{wordCount}
-use Rattle.boundary.specs.Boundary.{Stated, started, startedOf, posted, Slotted, slotted, Ran, ran, Figured, figured, Led, led, Wrote, wrote}
+use Rattle.layout.specs.Words.{wordCount}
+use Rattle.justrave.specs.Exported.{sizeOf, Stated, started, startedOf, posted, Slotted, slotted, Ran, ran, Figured, figured, accountTold, standingTold, Led, led, Wrote, wrote}
 
 -- ---- words
 
--- D, N and the slot number; the rows of two places, their accounts, and zeros up to the largest N behind both
-unfoldable pub twoPlaces : (head rows accounts : List ℕ) → List ℕ
-twoPlaces head rows accounts = head ++ rows ++ replicate (4 * (maxPlaces - 2)) 0 ++ accounts ++ replicate (2 * (maxPlaces - 2)) 0
+-- T with this n at place 1, in words with this room: D=4, N=2, the slot number; place 0 with n=1, b=8, j=1, L=4, its c and its q; place 1
+-- with b=4, j=1, L=7, its c and its q; and zeros
+unfoldable pub wordsIn : (room n slot c q d e : ℕ) → List ℕ
+wordsIn room n slot c q d e =
+    4 ∷ 2 ∷ slot
+    ∷ 1 ∷ 8 ∷ 1 ∷ 4 ∷ c ∷ q
+    ∷ n ∷ 4 ∷ 1 ∷ 7 ∷ d ∷ e
+    ∷ replicate (6 * (room - 2)) 0
 
--- T with this n at place 1: D=4; place 0: n=1, b=8, j=1, L=4; place 1: b=4, j=1, L=7
-unfoldable pub rated : (n slot : ℕ) → (accounts : List ℕ) → List ℕ
-rated n slot accounts = twoPlaces (4 ∷ 2 ∷ slot ∷ []) (1 ∷ 8 ∷ 1 ∷ 4 ∷ n ∷ 4 ∷ 1 ∷ 7 ∷ []) accounts
-
--- T at a slot number; c and q of place 0, then of place 1
-abbrev pub wordsT : (slot : ℕ) → (accounts : List ℕ) → List ℕ
-wordsT slot accounts = rated 1 slot accounts
+-- T in words with room for the largest N, at a slot number; c and q of place 0, then of place 1
+abbrev pub wordsT : (slot c q d e : ℕ) → List ℕ
+wordsT slot c q d e = wordsIn maxPlaces 1 slot c q d e
 
 -- T with each credit b and nothing posted; the same from slot 0; and with three posted to each place
 abbrev pub freshAt : (slot : ℕ) → List ℕ
-freshAt slot = wordsT slot (8 ∷ 0 ∷ 4 ∷ 0 ∷ [])
+freshAt slot = wordsT slot 8 0 4 0
 
 abbrev pub fresh : List ℕ
 fresh = freshAt 0
 
 abbrev pub threeEach : List ℕ
-threeEach = wordsT 0 (8 ∷ 3 ∷ 4 ∷ 3 ∷ [])
+threeEach = wordsT 0 8 3 4 3
 
 -- T with a rate of two to the power 32, which its field does not hold
 abbrev pub wide : List ℕ
-wide = rated 4294967296 0 (8 ∷ 0 ∷ 4 ∷ 0 ∷ [])
+wide = wordsIn maxPlaces 4294967296 0 8 0 4 0
 
 -- words that hold nothing of use
 abbrev pub unused : ℕ → List ℕ
@@ -106,6 +108,18 @@ figuring words p j old answer o = record {
   written = figured-as (record { answer = answer; outcome = o });
 }
 
+abbrev pub looking : (words : List ℕ) (place : ℕ) (old : List ℕ) → (answer : List ℕ) (outcome : ℕ) → Row
+looking words p old answer o = record {
+  asked = figured-as (accountTold maxPlaces words p old);
+  written = figured-as (record { answer = answer; outcome = o });
+}
+
+abbrev pub standing : (words old : List ℕ) → (answer : List ℕ) (outcome : ℕ) → Row
+standing words old answer o = record {
+  asked = figured-as (standingTold maxPlaces words old);
+  written = figured-as (record { answer = answer; outcome = o });
+}
+
 abbrev pub leading : (words : List ℕ) (place : ℕ) (log : List ℕ) (old : List ℤ) → (answer : List ℤ) (outcome : ℕ) → Row
 leading words p log old answer o = record {
   asked = led-as (led maxPlaces words p log old);
@@ -153,14 +167,14 @@ numberRows =
 unfoldable pub postRows : List Row
 postRows =
     -- case 3: three posted to each; place 2 is refused 11, and a backlog past its limit 21
-    posting fresh 0 3 (wordsT 0 (8 ∷ 3 ∷ 4 ∷ 0 ∷ [])) 0
-    ∷ posting (wordsT 0 (8 ∷ 3 ∷ 4 ∷ 0 ∷ [])) 1 3 threeEach 0
+    posting fresh 0 3 (wordsT 0 8 3 4 0) 0
+    ∷ posting (wordsT 0 8 3 4 0) 1 3 threeEach 0
     ∷ posting fresh 2 1 fresh 11
     ∷ posting threeEach 1 65533 threeEach 21
     ∷ posting (threeEach ++ 0 ∷ []) 0 0 (threeEach ++ 0 ∷ []) 255
     -- words that fit and break a rule are 23: a credit above its burst, a backlog past its limit
-    ∷ posting (wordsT 0 (9 ∷ 0 ∷ 3 ∷ 0 ∷ [])) 0 0 (wordsT 0 (9 ∷ 0 ∷ 3 ∷ 0 ∷ [])) 23
-    ∷ posting (wordsT 0 (8 ∷ 0 ∷ 4 ∷ 65536 ∷ [])) 0 0 (wordsT 0 (8 ∷ 0 ∷ 4 ∷ 65536 ∷ [])) 23
+    ∷ posting (wordsT 0 9 0 3 0) 0 0 (wordsT 0 9 0 3 0) 23
+    ∷ posting (wordsT 0 8 0 4 65536) 0 0 (wordsT 0 8 0 4 65536) 23
     -- a word that its field cannot hold is 23, here and in every call; 255 is ahead of 23
     ∷ posting wide 0 0 wide 23
     ∷ posting (wide ++ 0 ∷ []) 0 0 (wide ++ 0 ∷ []) 255
@@ -169,12 +183,12 @@ postRows =
 unfoldable pub slotRows : List Row
 slotRows =
     -- granted in slot 0 to place 0, told as 1; idle with nothing waiting, told as 0; the last slot number is refused 22
-    slotting threeEach (90 ∷ 91 ∷ []) (wordsT 1 (5 ∷ 2 ∷ 5 ∷ 3 ∷ [])) (0 ∷ 1 ∷ []) 0
+    slotting threeEach (90 ∷ 91 ∷ []) (wordsT 1 5 2 5 3) (0 ∷ 1 ∷ []) 0
     ∷ slotting (freshAt 7) (90 ∷ 91 ∷ []) (freshAt 8) (7 ∷ 0 ∷ []) 0
     ∷ slotting (freshAt maxSlot) (90 ∷ 91 ∷ []) (freshAt maxSlot) (90 ∷ 91 ∷ []) 22
     -- case 3's slot 2 goes to place 1, told as 2; in its slot 5 nobody has the credit, though one waits
-    ∷ slotting (wordsT 2 (2 ∷ 1 ∷ 6 ∷ 3 ∷ [])) (90 ∷ 91 ∷ []) (wordsT 3 (3 ∷ 1 ∷ 3 ∷ 2 ∷ [])) (2 ∷ 2 ∷ []) 0
-    ∷ slotting (wordsT 5 (1 ∷ 0 ∷ 1 ∷ 1 ∷ [])) (90 ∷ 91 ∷ []) (wordsT 6 (2 ∷ 0 ∷ 2 ∷ 1 ∷ [])) (5 ∷ 0 ∷ []) 0
+    ∷ slotting (wordsT 2 2 1 6 3) (90 ∷ 91 ∷ []) (wordsT 3 3 1 3 2) (2 ∷ 2 ∷ []) 0
+    ∷ slotting (wordsT 5 1 0 1 1) (90 ∷ 91 ∷ []) (wordsT 6 2 0 2 1) (5 ∷ 0 ∷ []) 0
     -- words that are all 0 are no state's
     ∷ slotting (replicate (wordCount maxPlaces) 0) (90 ∷ 91 ∷ []) (replicate (wordCount maxPlaces) 0) (90 ∷ 91 ∷ []) 23
     ∷ slotting wide (90 ∷ 91 ∷ []) wide (90 ∷ 91 ∷ []) 23
@@ -187,7 +201,7 @@ slotRows =
 unfoldable pub runRows : List Row
 runRows =
     -- case 3's nine slots
-    running threeEach (unused 9) (wordsT 9 (5 ∷ 0 ∷ 1 ∷ 0 ∷ [])) nineSlots 0
+    running threeEach (unused 9) (wordsT 9 5 0 1 0) nineSlots 0
     -- a run that would pass the last slot number is refused 22
     ∷ running (freshAt maxSlot) (90 ∷ []) (freshAt maxSlot) (90 ∷ []) 22
     ∷ running wide (90 ∷ []) wide (90 ∷ []) 23
@@ -219,9 +233,66 @@ writeRows =
     ∷ writing fresh (unused 12) [] (unused 12) [] 255
     ∷ []
 
+unfoldable pub lookRows : List Row
+lookRows =
+    -- the credit and the backlog of a place; place 2 is refused 11
+    looking threeEach 0 (90 ∷ 91 ∷ []) (8 ∷ 3 ∷ []) 0
+    ∷ looking (wordsT 3 3 1 3 2) 1 (90 ∷ 91 ∷ []) (3 ∷ 2 ∷ []) 0
+    ∷ looking threeEach 2 (90 ∷ 91 ∷ []) (90 ∷ 91 ∷ []) 11
+    ∷ looking wide 0 (90 ∷ 91 ∷ []) (90 ∷ 91 ∷ []) 23
+    ∷ looking threeEach 0 (90 ∷ []) (90 ∷ []) 255
+    -- the slot number and N
+    ∷ standing (freshAt 7) (90 ∷ 91 ∷ []) (7 ∷ 2 ∷ []) 0
+    ∷ standing wide (90 ∷ 91 ∷ []) (90 ∷ 91 ∷ []) 23
+    ∷ standing wide (90 ∷ 91 ∷ 92 ∷ []) (90 ∷ 91 ∷ 92 ∷ []) 255
+    ∷ []
+
+-- room for two places, or for three, is as good as room for 16; with room for one there is no T
+unfoldable pub roomRows : List Row
+roomRows =
+    starting (bytesT 7) 0 (unused 15) (wordsIn 2 1 0 8 0 4 0) 0
+    ∷ starting (bytesT 7) 0 (unused 21) (wordsIn 3 1 0 8 0 4 0) 0
+    ∷ starting (bytesT 7) 0 (unused 9) (replicate 9 0) 2
+    ∷ numbering (numbersT 7 []) 0 (unused 15) (wordsIn 2 1 0 8 0 4 0) 0
+    ∷ numbering (numbersT 7 (replicate 4 0)) 0 (unused 21) (wordsIn 3 1 0 8 0 4 0) 0
+    ∷ numbering (4 ∷ 2 ∷ 1 ∷ 8 ∷ 1 ∷ 4 ∷ []) 0 (unused 9) (replicate 9 0) 2
+    -- the numbers have the words' room
+    ∷ numbering (numbersT 7 (replicate 4 0)) 0 (unused 15) (unused 15) 255
+    -- case 3 in 15 words and in 21
+    ∷ posting (wordsIn 2 1 0 8 3 4 0) 1 3 (wordsIn 2 1 0 8 3 4 3) 0
+    ∷ posting (wordsIn 3 1 0 8 3 4 0) 1 3 (wordsIn 3 1 0 8 3 4 3) 0
+    ∷ posting (wordsIn 2 1 0 8 3 4 0) 2 1 (wordsIn 2 1 0 8 3 4 0) 11
+    ∷ posting (wordsIn 3 1 0 8 3 4 0) 2 1 (wordsIn 3 1 0 8 3 4 0) 11
+    ∷ slotting (wordsIn 2 1 2 2 1 6 3) (90 ∷ 91 ∷ []) (wordsIn 2 1 3 3 1 3 2) (2 ∷ 2 ∷ []) 0
+    ∷ slotting (wordsIn 3 1 2 2 1 6 3) (90 ∷ 91 ∷ []) (wordsIn 3 1 3 3 1 3 2) (2 ∷ 2 ∷ []) 0
+    ∷ running (wordsIn 2 1 0 8 3 4 3) (unused 2) (wordsIn 2 1 2 2 1 6 3) (0 ∷ 0 ∷ []) 0
+    ∷ figuring (wordsIn 2 1 0 8 3 4 3) 1 1 (90 ∷ 91 ∷ []) (3 ∷ 7 ∷ []) 0
+    ∷ looking (wordsIn 2 1 0 8 3 4 3) 1 (90 ∷ 91 ∷ []) (4 ∷ 3 ∷ []) 0
+    ∷ standing (wordsIn 2 1 2 2 1 6 3) (90 ∷ 91 ∷ []) (2 ∷ 2 ∷ []) 0
+    ∷ standing (wordsIn 3 1 2 2 1 6 3) (90 ∷ 91 ∷ []) (2 ∷ 2 ∷ []) 0
+    -- N above the room, and a third place that is not all 0, are 23
+    ∷ posting (4 ∷ 2 ∷ 0 ∷ 1 ∷ 8 ∷ 1 ∷ 4 ∷ 8 ∷ 0 ∷ []) 0 1 (4 ∷ 2 ∷ 0 ∷ 1 ∷ 8 ∷ 1 ∷ 4 ∷ 8 ∷ 0 ∷ []) 23
+    ∷ posting (wordsIn 2 1 0 8 3 4 0 ++ 0 ∷ 0 ∷ 0 ∷ 0 ∷ 0 ∷ 1 ∷ []) 0 1 (wordsIn 2 1 0 8 3 4 0 ++ 0 ∷ 0 ∷ 0 ∷ 0 ∷ 0 ∷ 1 ∷ []) 23
+    ∷ []
+
+-- as many words: 9 are room for one place and 99 for 16; no other of these is a state's length
+unfoldable pub lengthRows : List Row
+lengthRows =
+    posting (unused 3) 0 0 (unused 3) 255
+    ∷ posting (unused 8) 0 0 (unused 8) 255
+    ∷ posting (unused 9) 0 0 (unused 9) 23
+    ∷ posting (unused 10) 0 0 (unused 10) 255
+    ∷ posting (unused 99) 0 0 (unused 99) 23
+    ∷ posting (unused 105) 0 0 (unused 105) 255
+    ∷ []
+
+-- the words of a state by its room, 0 where there is no such room
+abbrev pub Sizes : Type 0
+Sizes = map (sizeOf maxPlaces) (0 ∷ 1 ∷ 2 ∷ 3 ∷ 16 ∷ 17 ∷ []) ≡ 0 ∷ 9 ∷ 15 ∷ 21 ∷ 99 ∷ 0 ∷ []
+
 -- what each row asks for is what is written
 abbrev pub Pass : List Row → Type 0
 Pass rows = map (λ r. r .asked) rows ≡ map (λ r. r .written) rows
 
 abbrev pub All-pass : Type 0
-All-pass = Pass startRows × Pass numberRows × Pass postRows × Pass slotRows × Pass runRows × Pass askedRows × Pass writeRows
+All-pass = Pass startRows × Pass numberRows × Pass postRows × Pass slotRows × Pass runRows × Pass askedRows × Pass writeRows × Pass lookRows × Pass roomRows × Pass lengthRows × Sizes

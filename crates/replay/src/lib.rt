@@ -39,7 +39,7 @@ fn refusal_words(c: Cause) -> Words
 fn make_post(s: Arbiter, place: u32, count: u32) -> Made
     ensures { λ m. ⌜ Makes m (called maxPlaces s (post place count)) ⌝ }
 {
-    let r = post(s, place as usize, Transfers(count));
+    let r = post(s, place as usize, Transfers(count as u64));
     let next = r.state;
     let a = r.answer;
     match a {

@@ -20,7 +20,7 @@ module _ {limit n : ℕ} {rates bursts credits backlogs : List ℕ} (room : Room
   pub rows-long : length (rowsOf rates bursts) ≡ limit
   rows-long = length-paired rowOf rates bursts (room .rates-long ∙ sym (room .bursts-long)) ∙ room .rates-long
 
-  pub sum-of : (p : ℕ) → p < n → accountAt p (accountsOf credits backlogs) .credit + requestorAt p (rowsOf rates bursts) .rate < 2 ^ 32
+  pub sum-of : (p : ℕ) → p < n → accountAt p (accountsOf credits backlogs) .credit + requestorAt p (rowsOf rates bursts) .rate < 2 ^ 64
   sum-of p h =
       rw (← account-of credits backlogs p (omega (arith, room .most, room .credits-long)) (omega (arith, room .most, room .backlogs-long)))
       (rw (← row-of rates bursts p (omega (arith, room .most, room .rates-long)) (omega (arith, room .most, room .bursts-long))) (room .sums p h))

@@ -30,11 +30,11 @@ columnsGrant d n rates bursts credits backlogs = firstEligible d (take n (rowsOf
 abbrev pub columnsAfter : (d n : ℕ) → Grant → (rates bursts credits backlogs : List ℕ) → List Account
 columnsAfter d n g rates bursts credits backlogs = after d g (take n (rowsOf rates bursts)) (accountsOf credits backlogs)
 
--- every column has `limit` places, of which the first n are the table's; there a credit and a rate add up within 32 bits
+-- every column has `limit` places, of which the first n are the table's; there a credit and a rate add up within 64 bits
 pub record Room (limit n : ℕ) (rates bursts credits backlogs : List ℕ) : Type 0 where
   pub most : n ≤ limit
   pub rates-long : length rates ≡ limit
   pub bursts-long : length bursts ≡ limit
   pub credits-long : length credits ≡ limit
   pub backlogs-long : length backlogs ≡ limit
-  pub sums : (p : ℕ) → p < n → getD credits p 0 + getD rates p 0 < 2 ^ 32
+  pub sums : (p : ℕ) → p < n → getD credits p 0 + getD rates p 0 < 2 ^ 64

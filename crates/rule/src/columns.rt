@@ -16,15 +16,15 @@ ghost use Rattle.rule.specs.Columns.{rowsOf, accountsOf};
 
 // The credits and the backlogs of a state's accounts. Its rates and bursts: arbiter::sums::columns_of.
 pub struct AccountColumns {
-    pub credits: [u32; Arbiter::MAX_PLACES],
-    pub backlogs: [u32; Arbiter::MAX_PLACES],
+    pub credits: [u64; Arbiter::MAX_PLACES],
+    pub backlogs: [u64; Arbiter::MAX_PLACES],
 }
 
 pub fn account_columns_of(s: Arbiter) -> AccountColumns
     ensures { λ c. ⌜ (c .credits ≡ map credit (s .accounts)) × (c .backlogs ≡ map backlog (s .accounts)) ⌝ }
 {
-    let mut credits = [0u32; Arbiter::MAX_PLACES];
-    let mut backlogs = [0u32; Arbiter::MAX_PLACES];
+    let mut credits = [0u64; Arbiter::MAX_PLACES];
+    let mut backlogs = [0u64; Arbiter::MAX_PLACES];
     let mut p: usize = 0;
     while p < Arbiter::MAX_PLACES {
         let a = s.accounts[p];
@@ -40,7 +40,7 @@ pub fn account_columns_of(s: Arbiter) -> AccountColumns
 }
 
 // What a slot looks at of the row of place p.
-pub(crate) fn row_at(rates: &[u32], bursts: &[u32], p: usize) -> Requestor
+pub(crate) fn row_at(rates: &[u64], bursts: &[u64], p: usize) -> Requestor
     requires { ⌜ (p < length (now rates)) × (p < length (now bursts)) ⌝ }
     ensures { λ r. ⌜ r ≡ requestorAt p (rowsOf (now (rates .entry)) (now (bursts .entry))) ⌝ }
 {
@@ -52,7 +52,7 @@ pub(crate) fn row_at(rates: &[u32], bursts: &[u32], p: usize) -> Requestor
     }
 }
 
-pub(crate) fn account_at(credits: &[u32], backlogs: &[u32], p: usize) -> Account
+pub(crate) fn account_at(credits: &[u64], backlogs: &[u64], p: usize) -> Account
     requires { ⌜ (p < length (now credits)) × (p < length (now backlogs)) ⌝ }
     ensures { λ a. ⌜ a ≡ accountAt p (accountsOf (now (credits .entry)) (now (backlogs .entry))) ⌝ }
 {
@@ -62,7 +62,7 @@ pub(crate) fn account_at(credits: &[u32], backlogs: &[u32], p: usize) -> Account
     }
 }
 
-pub fn accounts_of(credits: &[u32], backlogs: &[u32]) -> [Account; Arbiter::MAX_PLACES]
+pub fn accounts_of(credits: &[u64], backlogs: &[u64]) -> [Account; Arbiter::MAX_PLACES]
     requires { ⌜ (length (now credits) ≡ maxPlaces) × (length (now backlogs) ≡ maxPlaces) ⌝ }
     ensures { λ r. ⌜ r ≡ accountsOf (now (credits .entry)) (now (backlogs .entry)) ⌝ }
 {

@@ -18,8 +18,8 @@ pub enum Grant {
     Place(usize),
 }
 
-fn is_eligible(d: u32, r: Requestor, a: Account) -> bool
-    requires { ⌜ a .credit + r .rate < 2 ^ 32 ⌝ }
+pub fn is_eligible(d: u64, r: Requestor, a: Account) -> bool
+    requires { ⌜ a .credit + r .rate < 2 ^ 64 ⌝ }
     ensures { λ b. ⌜ b ≡ eligible d r a ⌝ }
 {
     let credit = a.credit;
@@ -32,7 +32,7 @@ fn is_eligible(d: u32, r: Requestor, a: Account) -> bool
 }
 
 // The first eligible of the first n places, or nobody.
-fn find(d: u32, n: usize, rates: &[u32], bursts: &[u32], credits: &[u32], backlogs: &[u32]) -> Grant
+fn find(d: u64, n: usize, rates: &[u64], bursts: &[u64], credits: &[u64], backlogs: &[u64]) -> Grant
     requires { ⌜ Room maxPlaces n (now rates) (now bursts) (now credits) (now backlogs) ⌝ }
     ensures { λ g. ⌜ g ≡ columnsGrant d n (now (rates .entry)) (now (bursts .entry)) (now (credits .entry)) (now (backlogs .entry)) ⌝ }
 {
@@ -52,8 +52,8 @@ fn find(d: u32, n: usize, rates: &[u32], bursts: &[u32], credits: &[u32], backlo
 }
 
 // The account of the granted place.
-fn serve(d: u32, r: Requestor, a: Account) -> Account
-    requires { ⌜ (a .credit + r .rate < 2 ^ 32) × (eligible d r a ≡ true) ⌝ }
+pub fn serve(d: u64, r: Requestor, a: Account) -> Account
+    requires { ⌜ (a .credit + r .rate < 2 ^ 64) × (eligible d r a ≡ true) ⌝ }
     ensures { λ b. ⌜ b ≡ served d r a ⌝ }
 {
     let q = a.backlog;
@@ -64,8 +64,8 @@ fn serve(d: u32, r: Requestor, a: Account) -> Account
 }
 
 // The account of any other place. Only a place with nothing waiting is capped at its burst.
-fn pass(r: Requestor, a: Account) -> Account
-    requires { ⌜ a .credit + r .rate < 2 ^ 32 ⌝ }
+pub fn pass(r: Requestor, a: Account) -> Account
+    requires { ⌜ a .credit + r .rate < 2 ^ 64 ⌝ }
     ensures { λ b. ⌜ b ≡ passed r a ⌝ }
 {
     let q = a.backlog;
@@ -85,8 +85,8 @@ fn pass(r: Requestor, a: Account) -> Account
 }
 
 // The account of place p after a slot that granted g.
-fn account_after(d: u32, g: Grant, p: usize, r: Requestor, a: Account) -> Account
-    requires { ⌜ (a .credit + r .rate < 2 ^ 32) × (names g p ≡ true → eligible d r a ≡ true) ⌝ }
+fn account_after(d: u64, g: Grant, p: usize, r: Requestor, a: Account) -> Account
+    requires { ⌜ (a .credit + r .rate < 2 ^ 64) × (names g p ≡ true → eligible d r a ≡ true) ⌝ }
     ensures { λ b. ⌜ b ≡ accountAfter d g p r a ⌝ }
 {
     match g {
@@ -97,13 +97,13 @@ fn account_after(d: u32, g: Grant, p: usize, r: Requestor, a: Account) -> Accoun
 
 // The accounts of the first n places after a slot that granted g.
 fn advance(
-    d: u32,
+    d: u64,
     g: Grant,
     n: usize,
-    rates: &[u32],
-    bursts: &[u32],
-    credits: &mut [u32],
-    backlogs: &mut [u32],
+    rates: &[u64],
+    bursts: &[u64],
+    credits: &mut [u64],
+    backlogs: &mut [u64],
 )
     requires { ⌜ Room maxPlaces n (now rates) (now bursts) (now credits) (now backlogs) × (g ≡ columnsGrant d n (now rates) (now bursts) (now credits) (now backlogs)) ⌝ }
     ensures { λ _. ⌜ accountsOf (now (credits .exit)) (now (backlogs .exit)) ≡ columnsAfter d n g (now (rates .entry)) (now (bursts .entry)) (now (credits .entry)) (now (backlogs .entry)) ⌝ }
@@ -122,12 +122,12 @@ fn advance(
 
 // One slot: whom it grants; and every account moves on.
 pub fn one_slot(
-    d: u32,
+    d: u64,
     n: usize,
-    rates: &[u32],
-    bursts: &[u32],
-    credits: &mut [u32],
-    backlogs: &mut [u32],
+    rates: &[u64],
+    bursts: &[u64],
+    credits: &mut [u64],
+    backlogs: &mut [u64],
 ) -> Grant
     requires { ⌜ Room maxPlaces n (now rates) (now bursts) (now credits) (now backlogs) ⌝ }
     ensures grant { λ g. ⌜ g ≡ columnsGrant d n (now (rates .entry)) (now (bursts .entry)) (now (credits .entry)) (now (backlogs .entry)) ⌝ }

@@ -47,7 +47,7 @@ pub record Outcome : Type 0 where
   pub answer : Answer
   pub log : List ℕ
 
--- `limit` is the largest N
+-- `limit` is how many places there is room for
 unfoldable pub run : ℕ → Arbiter → (old : List ℕ) → Outcome
 run limit s old =
     resolve (runVerdict limit s (length old))

@@ -47,12 +47,12 @@ fn grant_byte(g: Grant) -> u8
 
 // One slot, and its byte at the start of the rest of the log.
 fn log_slot(
-    d: u32,
+    d: u64,
     n: usize,
-    rates: &[u32],
-    bursts: &[u32],
-    credits: &mut [u32],
-    backlogs: &mut [u32],
+    rates: &[u64],
+    bursts: &[u64],
+    credits: &mut [u64],
+    backlogs: &mut [u64],
     rest: &mut [u8],
 )
     requires { ⌜ Room maxPlaces n (now rates) (now bursts) (now credits) (now backlogs) × (n ≤ 255) × (1 ≤ length (now rest)) ⌝ }

@@ -67,7 +67,7 @@ itemsRead item (suc items) p bytes =
 abbrev pub rowsRead : (places d p : ℕ) → List ℕ → Read (List Requestor)
 rowsRead places d p bytes = itemsRead (rowRead d) places p bytes
 
--- the places of a table, whose D and N have been read; `limit` is the largest N
+-- the places of a table, whose D and N have been read; `limit` is how many places there is room for
 unfoldable pub placesRead : (limit d n : ℕ) → List ℕ → Read Table
 placesRead limit d n bytes = next (rowsRead n d 0 bytes) λ rows rest. read (tableOf limit d n rows) rest
 

@@ -37,7 +37,7 @@ pub record TableWritten : Type 0 where
   pub answer : WriteAnswer
   pub buffer : List ℕ
 
--- a table's bytes into a buffer; `limit` is the largest N
+-- a table's bytes into a buffer; `limit` is how many places there is room for
 unfoldable pub writeTable : ℕ → Table → (old : List ℕ) → TableWritten
 writeTable limit t old =
     resolve (writeVerdict limit t (length old))

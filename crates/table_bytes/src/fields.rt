@@ -39,7 +39,7 @@ pub fn read_value(bytes: &[u8]) -> Field
 }
 
 // The number at the start of the bytes is read (8, 9) and checked.
-pub(crate) fn read_field(bytes: &[u8], bounds: Bounds) -> Field
+pub fn read_field(bytes: &[u8], bounds: Bounds) -> Field
     ensures { λ f. ⌜ fieldOf (now (bytes .entry)) f ≡ fieldRead (boundsOf bounds) (now (bytes .entry)) ⌝ }
     ensures there { λ f. ⌜ takenByField f ≤ length (now (bytes .entry)) ⌝ }
 {

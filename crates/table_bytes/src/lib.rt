@@ -3,5 +3,5 @@
 pub mod fields;
 mod numbers;
 pub mod reader;
-mod rows;
+pub mod rows;
 pub mod writer;

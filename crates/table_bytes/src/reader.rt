@@ -66,7 +66,7 @@ fn settle(t: Table, left: usize) -> ReadResult
 }
 
 // The places of a table of which D and N have been read: each row is read from the bytes that the one before it left.
-fn read_places(bytes: &[u8], d: u32, n: usize) -> ReadResult
+fn read_places(bytes: &[u8], d: u64, n: usize) -> ReadResult
     requires { ⌜ (heldTo denominatorBounds d ≡ faultless) × (heldTo (countBounds maxPlaces) n ≡ faultless) ⌝ }
     ensures { λ r. ⌜ readResultOf r ≡ settled maxPlaces (placesRead maxPlaces d n (now (bytes .entry))) ⌝ }
 {
@@ -103,5 +103,5 @@ pub fn read_table(bytes: &[u8]) -> ReadResult
         Field::Refused(c) => return refuse(c),
     };
     let after_n = n.taken;
-    read_places(&from_n[after_n..], d.value, n.value as usize)
+    read_places(&from_n[after_n..], d.value as u64, n.value as usize)
 }

@@ -12,13 +12,13 @@ ghost use lib.ListN.{length};
 ghost use Rattle.table_bytes.specs.Reading.{rowRead, rowOf, takenByRow};
 
 // A row and how many bytes it takes.
-pub(crate) enum Row {
+pub enum Row {
     Taken(Requestor, usize),
     Refused(Cause),
 }
 
 // The row of place p at the start of the bytes.
-pub(crate) fn read_row(bytes: &[u8], d: u32, p: usize) -> Row
+pub fn read_row(bytes: &[u8], d: u64, p: usize) -> Row
     ensures { λ r. ⌜ rowOf (now (bytes .entry)) r ≡ rowRead d p (now (bytes .entry)) ⌝ }
     ensures there { λ r. ⌜ takenByRow r ≤ length (now (bytes .entry)) ⌝ }
 {
@@ -45,9 +45,9 @@ pub(crate) fn read_row(bytes: &[u8], d: u32, p: usize) -> Row
         Field::Refused(c) => return Row::Refused(c),
     };
     let row = Requestor {
-        rate: n.value,
-        burst: b.value,
-        need: Transfers(j.value),
+        rate: n.value as u64,
+        burst: b.value as u64,
+        need: Transfers(j.value as u64),
         within: Slots(l.value as u64),
     };
     Row::Taken(row, after_n + after_b + after_j + l.taken)

@@ -1,12 +1,12 @@
 // A table as bytes in a lent buffer.
-use crate::numbers::bytes_len;
 use crate::numbers::numbers_of;
-use crate::numbers::put_numbers;
 use arbiter::admission::admit;
 use arbiter::refusals::Cause;
 use arbiter::refusals::InputRefusal;
 use arbiter::refusals::Verdict;
 use arbiter::table::Table;
+use number_bytes::bytes_len;
+use number_bytes::put_numbers;
 ghost use mathlib.Core.Path.{_≡_};
 ghost use Rattle.arbiter.specs.Limits.{maxPlaces};
 ghost use Rattle.table_bytes.specs.Writing.{writeTable, writeAnswerOf};

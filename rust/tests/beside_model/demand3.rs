@@ -35,11 +35,11 @@ impl Seen {
         self.table.count as usize
     }
 
-    fn post(&mut self, place: usize, count: u32) {
+    fn post(&mut self, place: usize, count: u64) {
         let told = self.product.post(place, Transfers(count));
-        assert_eq!(told.is_ok(), self.model.post(place, u64::from(count)).is_ok());
+        assert_eq!(told.is_ok(), self.model.post(place, count).is_ok());
         if told.is_ok() {
-            self.accepted[place] += u64::from(count);
+            self.accepted[place] += count;
         }
     }
 
@@ -162,12 +162,12 @@ impl Bites {
 }
 
 /// How a place behaves in a list: how many it posts, and how often.
-fn habits(chance: &mut Chance, places: usize) -> Vec<(u32, u64)> {
+fn habits(chance: &mut Chance, places: usize) -> Vec<(u64, u64)> {
     (0..places).map(|_| chance.pick(&[(1, 3), (2, 9), (6, 25), (65_535, 40), (1, 1)])).collect()
 }
 
 /// The posts before a slot.
-fn posts(chance: &mut Chance, habits: &[(u32, u64)]) -> Vec<(usize, u32)> {
+fn posts(chance: &mut Chance, habits: &[(u64, u64)]) -> Vec<(usize, u64)> {
     let due = habits.iter().enumerate().filter(|(_, habit)| chance.one_in(habit.1));
     due.map(|(place, habit)| (place, habit.0)).collect()
 }
@@ -227,7 +227,7 @@ fn lists_at_the_last_slot() {
 }
 
 /// The grants of places 0 to k, slot by slot, with the given posts to them and other posts below.
-fn grants_down_to(k: usize, table: Table, above: &[Vec<(usize, u32)>], chance: &mut Chance) -> Vec<Option<usize>> {
+fn grants_down_to(k: usize, table: Table, above: &[Vec<(usize, u64)>], chance: &mut Chance) -> Vec<Option<usize>> {
     let mut seen = Seen::start(table, 0);
     let habits = habits(chance, seen.places());
     for due in above {

@@ -4,5 +4,6 @@
 mod demand3;
 mod differential;
 mod model;
+mod rooms;
 mod rows;
 mod support;

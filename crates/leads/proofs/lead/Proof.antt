@@ -13,9 +13,9 @@ use Rattle.arbiter.proofs.Checks.{gate-open, then-open}
 use Rattle.arbiter.proofs.Above.{Above, above}
 use Rattle.arbiter.proofs.Sound.{sound-open, place-open}
 use Rattle.arbiter.proofs.Shapes.{shaped}
+use Rattle.lead_parts.proofs.Signed.{product-most, difference-fits}
+use Rattle.lead_parts.proofs.Counts.{bytes-most}
 use Rattle.leads.specs.Lead.{leadVerdict, leadOf, leadAsked}
-use Rattle.leads.proofs.Signed.{product-most, difference-fits}
-use Rattle.leads.proofs.Counts.{bytes-most}
 use Rattle.leads.proofs.lead.Statement.{statement}
 use Rattle.leads.proofs.lead.Tie as tie
 use mir.Facts.{toZ-ofZ}

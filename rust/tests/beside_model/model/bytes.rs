@@ -43,12 +43,12 @@ impl Reader<'_> {
     }
 }
 
-impl Table {
+impl<const PLACES: usize> Table<PLACES> {
     /// An accepted table from its bytes.
-    pub fn read(bytes: &[u8]) -> Result<Table, Fault> {
+    pub fn read(bytes: &[u8]) -> Result<Table<PLACES>, Fault> {
         let mut reader = Reader(bytes);
         let mut table = Table { denominator: reader.checked(check_denominator)?, ..Table::default() };
-        table.count = reader.checked(check_count)?;
+        table.count = reader.checked(|count| check_count(count, PLACES))?;
         for place in 0..table.count as usize {
             table.requestors[place] = reader.requestor(table.denominator, place)?;
         }

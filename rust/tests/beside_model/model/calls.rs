@@ -1,6 +1,6 @@
 //! The state, and the calls on it. A refused call changes nothing.
 
-use super::{pass, Fault, Table, IDLE, MAX_BACKLOG, MAX_LOG, MAX_SLOT, PLACES};
+use super::{pass, Fault, Table, IDLE, MAX_BACKLOG, MAX_LOG, MAX_PLACES, MAX_SLOT};
 
 #[derive(Clone, Copy, Debug, Default, PartialEq, Eq)]
 pub struct Account {
@@ -9,27 +9,27 @@ pub struct Account {
 }
 
 /// A state, sound or not: any number may stand in any field.
-#[derive(Clone, Copy, Debug, Default, PartialEq, Eq)]
-pub struct State {
-    pub table: Table,
+#[derive(Clone, Copy, Debug, PartialEq, Eq)]
+pub struct State<const PLACES: usize = MAX_PLACES> {
+    pub table: Table<PLACES>,
     pub slot: u64,
     pub accounts: [Account; PLACES],
 }
 
-impl State {
-    pub fn start(table: &[u8], first: u64) -> Result<State, Fault> {
+impl<const PLACES: usize> State<PLACES> {
+    pub fn start(table: &[u8], first: u64) -> Result<State<PLACES>, Fault> {
         State::open(Table::read(table)?, first)
     }
 
     /// From a table given as numbers.
-    pub fn start_numbers(table: &Table, first: u64) -> Result<State, Fault> {
+    pub fn start_numbers(table: &Table<PLACES>, first: u64) -> Result<State<PLACES>, Fault> {
         table.check_numbers()?;
         table.check_finishes()?;
         State::open(*table, first)
     }
 
     /// The opening state of an accepted table.
-    fn open(table: Table, first: u64) -> Result<State, Fault> {
+    fn open(table: Table<PLACES>, first: u64) -> Result<State<PLACES>, Fault> {
         pass(first <= MAX_SLOT, 12)?;
         let accounts = table.requestors.map(|requestor| Account { credit: requestor.burst, backlog: 0 });
         Ok(State { table, slot: first, accounts })
@@ -38,9 +38,9 @@ impl State {
     pub fn post(&mut self, place: usize, count: u64) -> Result<(), Fault> {
         self.check()?;
         self.check_place(place)?;
-        let backlog = self.accounts[place].backlog + count;
-        pass(backlog <= MAX_BACKLOG, 21)?;
-        self.accounts[place].backlog = backlog;
+        let backlog = &mut self.accounts[place].backlog;
+        pass(count <= MAX_BACKLOG - *backlog, 21)?;
+        *backlog += count;
         Ok(())
     }
 
@@ -86,6 +86,18 @@ impl State {
         let front = buffer.get_mut(..bytes.len()).ok_or(Fault { number: 14, place: None })?;
         front.copy_from_slice(&bytes);
         Ok(bytes.len())
+    }
+
+    pub fn account(&self, place: usize) -> Result<Account, Fault> {
+        self.check()?;
+        self.check_place(place)?;
+        Ok(self.accounts[place])
+    }
+
+    /// The slot number and N.
+    pub fn standing(&self) -> Result<(u64, u64), Fault> {
+        self.check()?;
+        Ok((self.slot, self.table.count))
     }
 
     /// 23.

@@ -1,8 +1,6 @@
 //! The table, its limits and its checks, and the figures that are read off it.
 
-use super::{pass, pass_at, Fault};
-
-pub const PLACES: usize = 16;
+use super::{pass, pass_at, Fault, MAX_PLACES};
 
 #[derive(Clone, Copy, Debug, Default, PartialEq, Eq)]
 pub struct Requestor {
@@ -12,20 +10,26 @@ pub struct Requestor {
     pub within: u64,
 }
 
-/// A table, sound or not: any number may stand in any field.
-#[derive(Clone, Copy, Debug, Default, PartialEq, Eq)]
-pub struct Table {
+/// A table, sound or not: any number may stand in any field. It has room for so many places, and more than that are 2.
+#[derive(Clone, Copy, Debug, PartialEq, Eq)]
+pub struct Table<const PLACES: usize = MAX_PLACES> {
     pub denominator: u64,
     pub count: u64,
     pub requestors: [Requestor; PLACES],
+}
+
+impl<const PLACES: usize> Default for Table<PLACES> {
+    fn default() -> Table<PLACES> {
+        Table { denominator: 0, count: 0, requestors: [Requestor::default(); PLACES] }
+    }
 }
 
 pub fn check_denominator(denominator: u64) -> Result<(), Fault> {
     pass((1..=65_535).contains(&denominator), 1)
 }
 
-pub fn check_count(count: u64) -> Result<(), Fault> {
-    pass((1..=16).contains(&count), 2)
+pub fn check_count(count: u64, places: usize) -> Result<(), Fault> {
+    pass((1..=places as u64).contains(&count), 2)
 }
 
 pub fn check_rate(rate: u64, denominator: u64, place: usize) -> Result<(), Fault> {
@@ -53,7 +57,7 @@ impl Requestor {
     }
 }
 
-impl Table {
+impl<const PLACES: usize> Table<PLACES> {
     /// The requestors of places 0 to N - 1, in a table whose N is within its limits.
     pub fn used(&self) -> &[Requestor] {
         &self.requestors[..self.count as usize]
@@ -62,7 +66,7 @@ impl Table {
     /// 1 to 6, in the order for a table given as numbers.
     pub fn check_numbers(&self) -> Result<(), Fault> {
         check_denominator(self.denominator)?;
-        check_count(self.count)?;
+        check_count(self.count, PLACES)?;
         pass(self.requestors[self.count as usize..].iter().all(|past| *past == Requestor::default()), 2)?;
         for (place, requestor) in self.used().iter().enumerate() {
             requestor.check(self.denominator, place)?;

@@ -5,7 +5,7 @@ use justrave::{sys, Arbiter, Cause, Refusal, SlotAnswer, Transfers};
 
 use super::row::{Call, Row};
 use crate::model::{State, IDLE};
-use crate::support::words::{state_of, words_of, Words};
+use crate::support::words::{state_of, words_of};
 
 /// What stands in lent bytes before a call.
 const FILL: u8 = 0xAA;
@@ -36,7 +36,7 @@ pub fn told(row: &Row) -> String {
 }
 
 fn arbiter(row: &Row) -> Arbiter {
-    Arbiter::from_words(words_of(&row.state()))
+    Arbiter::from_words(&words_of(&row.state())).expect("as many words as there is room for")
 }
 
 fn refused(refusal: Refusal) -> String {
@@ -53,8 +53,8 @@ fn refused_and(refusal: Refusal, claim: &str, holds: bool) -> String {
     format!("{}, {}{claim}", refused(refusal), if holds { "" } else { "NOT " })
 }
 
-fn accounts(words: &Words) -> String {
-    let State { accounts: [first, second, ..], slot, .. } = state_of(words);
+fn accounts(words: &[u64]) -> String {
+    let State { accounts: [first, second, ..], slot, .. }: State = state_of(words);
     format!("credits {} {} backlogs {} {} slot {slot}", first.credit, second.credit, first.backlog, second.backlog)
 }
 
@@ -73,8 +73,10 @@ fn answer_of(outcome: u64) -> Result<(), Refusal> {
     Err(Refusal { number, place, cause })
 }
 
+type Words = [u64; <Arbiter>::STATE_WORDS];
+
 /// Words that no start has written, so that a start that writes none of them shows.
-const DIRTY: Words = [u64::MAX; Arbiter::STATE_WORDS];
+const DIRTY: Words = [u64::MAX; <Arbiter>::STATE_WORDS];
 
 fn start_numbers(row: &Row, first: u64) -> (Result<(), Refusal>, Words) {
     let numbers = row.numbers().expect("the numbers have 32 bits");
@@ -121,7 +123,7 @@ fn read_table(row: &Row) -> String {
 
 /// D, N and the rows.
 fn table_numbers(words: &Words) -> String {
-    let table = state_of(words).table;
+    let State { table, .. }: State = state_of(words);
     let rows = table.used().iter().flat_map(|row| [row.rate, row.burst, row.need, row.within]);
     let numbers = [table.denominator, table.count].into_iter().chain(rows);
     numbers.map(|number| number.to_string()).collect::<Vec<_>>().join(" ")
@@ -160,27 +162,27 @@ fn table_bytes(row: &Row) -> String {
 
 fn post(row: &Row) -> String {
     let mut line = arbiter(row);
-    let before = *line.words();
-    match line.post(row.number("place") as usize, Transfers(row.number("count") as u32)) {
+    let before = line.clone();
+    match line.post(row.number("place") as usize, Transfers(row.number("count"))) {
         Ok(()) => format!("accepted {}", accounts(line.words())),
-        Err(refusal) => refused_and(refusal, "state kept", *line.words() == before),
+        Err(refusal) => refused_and(refusal, "state kept", line == before),
     }
 }
 
 fn slot(row: &Row) -> String {
     let mut line = arbiter(row);
-    let before = *line.words();
+    let before = line.clone();
     match line.slot() {
         Ok(SlotAnswer::Granted(stamp, place)) => format!("granted {place} stamp {stamp} {}", accounts(line.words())),
         Ok(SlotAnswer::Idle(stamp)) => format!("idle stamp {stamp} {}", accounts(line.words())),
-        Err(refusal) => refused_and(refusal, "state kept", *line.words() == before),
+        Err(refusal) => refused_and(refusal, "state kept", line == before),
     }
 }
 
 /// Of the log the first nine bytes are told.
 fn run(row: &Row) -> String {
     let mut line = arbiter(row);
-    let before = *line.words();
+    let before = line.clone();
     let (mut log, length) = memory(row.number("length"));
     match line.run(&mut log[..length]) {
         Ok(()) => {
@@ -188,7 +190,7 @@ fn run(row: &Row) -> String {
             format!("ran {} log {}", accounts(line.words()), decimals(&log[..length.min(9)])).trim_end().to_string()
         }
         Err(refusal) => {
-            let kept = refused_and(refusal, "state kept", *line.words() == before);
+            let kept = refused_and(refusal, "state kept", line == before);
             format!("{kept}, {}log kept", if untouched(&log) { "" } else { "NOT " })
         }
     }
@@ -203,7 +205,7 @@ fn lead(row: &Row) -> String {
 }
 
 fn figures(row: &Row) -> String {
-    match arbiter(row).figures(row.number("place") as usize, Transfers(row.number("for") as u32)) {
+    match arbiter(row).figures(row.number("place") as usize, Transfers(row.number("for"))) {
         Ok(figures) => format!("wait {} finish {}", figures.wait, figures.finish),
         Err(refusal) => refused(refusal),
     }
@@ -218,10 +220,10 @@ fn number<T>(answer: Result<T, Refusal>) -> u8 {
 fn refusals(row: &Row, place: u64, count: u64, j: u64, length: u64) -> String {
     let (line, place, mut log) = (arbiter(row), place as usize, vec![FILL; length as usize]);
     let led = number(line.lead(place, &log));
-    let posted = number(line.clone().post(place, Transfers(count as u32)));
+    let posted = number(line.clone().post(place, Transfers(count)));
     let slotted = number(line.clone().slot());
     let ran = number(line.clone().run(&mut log));
-    let figured = number(line.figures(place, Transfers(j as u32)));
+    let figured = number(line.figures(place, Transfers(j)));
     let checked = number(line.figures(place, Transfers(1)));
     format!("post {posted} slot {slotted} run {ran} lead {led} figures {figured} check_place {checked}")
 }
@@ -233,12 +235,12 @@ fn state(row: &Row) -> String {
     if sound {
         return format!("sound, {told}");
     }
-    let before = *arbiter(row).words();
+    let before = arbiter(row);
     let (mut posted, mut slotted, mut ran, mut log) = (arbiter(row), arbiter(row), arbiter(row), [FILL; 3]);
     let refusals = [number(posted.post(0, Transfers(1))), number(slotted.slot()), number(ran.run(&mut log))];
     assert_eq!(refusals, [23; 3]);
-    let kept = *posted.words() == before && *slotted.words() == before;
-    let kept_by_run = *ran.words() == before && untouched(&log);
+    let kept = posted == before && slotted == before;
+    let kept_by_run = ran == before && untouched(&log);
     let not = |holds: bool| if holds { "" } else { "NOT " };
     format!("unsound, {told}, {}state kept, {}kept by run", not(kept), not(kept_by_run))
 }
@@ -255,7 +257,7 @@ impl Slotted {
         let mut slotted = Slotted { log: Vec::new(), line: arbiter(row) };
         for done in 0..row.number("length") {
             if done == row.number("after") {
-                let count = Transfers(row.number("count") as u32);
+                let count = Transfers(row.number("count"));
                 slotted.line.post(row.number("place") as usize, count).expect("the post is accepted");
             }
             slotted.slot();
@@ -281,7 +283,7 @@ fn slots_as_run(row: &Row) -> String {
 
 fn slots_and_credits(row: &Row) -> String {
     let slotted = Slotted::of(row);
-    let [first, second, ..] = state_of(slotted.line.words()).accounts;
+    let State { accounts: [first, second, ..], .. }: State = state_of(slotted.line.words());
     format!("{} credits {} {}", decimals(&slotted.log), first.credit, second.credit)
 }
 

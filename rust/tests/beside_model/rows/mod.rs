@@ -52,7 +52,7 @@ fn lines_that_are_no_rows() {
         "admit 4: faultless",
         "lead T place 0 length 1 each 0 log 0: 3",
         "read_table bytes 4: accepted",
-        "post T place 0 count 4294967296: accepted",
+        "post T place 0 count 18446744073709551616: accepted",
     ] {
         assert!(Row::parse(line).is_err(), "understood: {line}");
     }

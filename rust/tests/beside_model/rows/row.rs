@@ -1,6 +1,6 @@
 //! A row: a request by field, a colon and the answer, in the grammar that stands at the top of the file of rows.
 
-use crate::model::{Account, Requestor, State, Table, PLACES};
+use crate::model::{Account, Requestor, State, Table, MAX_PLACES};
 
 #[derive(Clone, Copy, Debug, PartialEq, Eq)]
 pub enum Call {
@@ -86,17 +86,17 @@ const FIELDS: [(&str, usize, usize, u64); 20] = [
     ("T", 0, 0, 0),
     ("D", 1, 1, NARROW),
     ("N", 1, 1, u64::MAX),
-    ("rate", 1, PLACES, NARROW),
-    ("burst", 1, PLACES, NARROW),
-    ("need", 1, PLACES, NARROW),
-    ("within", 1, PLACES, u64::MAX),
-    ("credit", 1, PLACES, NARROW),
-    ("backlog", 1, PLACES, NARROW),
+    ("rate", 1, MAX_PLACES, NARROW),
+    ("burst", 1, MAX_PLACES, NARROW),
+    ("need", 1, MAX_PLACES, NARROW),
+    ("within", 1, MAX_PLACES, u64::MAX),
+    ("credit", 1, MAX_PLACES, NARROW),
+    ("backlog", 1, MAX_PLACES, NARROW),
     ("slot", 1, 1, u64::MAX),
     ("first", 1, 1, u64::MAX),
     ("place", 1, 1, u64::MAX),
-    ("count", 1, 1, NARROW),
-    ("for", 1, 1, NARROW),
+    ("count", 1, 1, u64::MAX),
+    ("for", 1, 1, u64::MAX),
     ("after", 1, 1, u64::MAX),
     ("length", 1, 1, u64::MAX),
     ("each", 1, 1, 255),
@@ -190,7 +190,7 @@ impl Row {
     }
 
     /// A number for each place: those that are named, or those of T, and 0 behind them.
-    fn places(&self, name: &str, of_t: &[u64]) -> [u64; PLACES] {
+    fn places(&self, name: &str, of_t: &[u64]) -> [u64; MAX_PLACES] {
         let of_t = if self.find("T").is_some() { of_t } else { &[] };
         let given = self.find(name).unwrap_or(of_t);
         std::array::from_fn(|place| given.get(place).copied().unwrap_or(0))

@@ -3,19 +3,21 @@
 use justrave::{Arbiter, Cause, Refusal, SlotAnswer, Transfers};
 
 use super::chance::Chance;
-use super::words::{words_of, Words};
-use crate::model::{Fault, State, IDLE, MAX_BACKLOG, MAX_LOG, MAX_SLOT, PLACES};
+use super::words::words_of;
+use crate::model::{Fault, State, Table, IDLE, MAX_BACKLOG, MAX_LOG, MAX_PLACES, MAX_SLOT};
 
 #[derive(Clone, Debug)]
 pub enum Call {
-    Post(usize, u32),
+    Post(usize, u64),
     Slot,
     /// The log's length.
     Run(usize),
-    Figures(usize, u32),
+    Figures(usize, u64),
     Lead(usize, Vec<u8>),
     /// The buffer's length.
     Write(usize),
+    Account(usize),
+    Standing,
 }
 
 /// A refusal's number, its place, and whether the state caused it.
@@ -26,7 +28,7 @@ pub type Turned = (u8, Option<usize>, bool);
 pub struct Told {
     pub answer: Result<Vec<i64>, Turned>,
     pub lent: Vec<u8>,
-    pub words: Words,
+    pub words: Vec<u64>,
 }
 
 /// What stands in lent bytes before a call, so that a byte that was written shows.
@@ -41,6 +43,8 @@ impl Call {
             Call::Figures(..) => "figures",
             Call::Lead(..) => "lead",
             Call::Write(..) => "write",
+            Call::Account(..) => "account",
+            Call::Standing => "standing",
         }
     }
 
@@ -51,7 +55,7 @@ impl Call {
         }
     }
 
-    pub fn on_product(&self, arbiter: &mut Arbiter) -> Told {
+    pub fn on_product<const ROOM: usize>(&self, arbiter: &mut Arbiter<ROOM>) -> Told {
         let mut lent = self.lent();
         let answer = match self {
             Call::Post(place, count) => arbiter.post(*place, Transfers(*count)).map(|()| vec![]),
@@ -62,21 +66,29 @@ impl Call {
                 .map(|figures| vec![figures.wait.0 as i64, figures.finish.0 as i64]),
             Call::Lead(place, log) => arbiter.lead(*place, log).map(|lead| vec![lead]),
             Call::Write(_) => arbiter.write_table(&mut lent).map(|length| vec![length as i64]),
+            Call::Account(place) => {
+                arbiter.account(*place).map(|account| vec![account.credit as i64, account.backlog.0 as i64])
+            }
+            Call::Standing => arbiter.standing().map(|standing| vec![standing.slot.0 as i64, standing.places as i64]),
         };
-        Told { answer: answer.map_err(turned_by_product), lent, words: *arbiter.words() }
+        Told { answer: answer.map_err(turned_by_product), lent, words: arbiter.words().to_vec() }
     }
 
-    pub fn on_model(&self, state: &mut State) -> Told {
+    pub fn on_model<const ROOM: usize>(&self, state: &mut State<ROOM>) -> Told {
         let mut lent = self.lent();
         let answer = match self {
-            Call::Post(place, count) => state.post(*place, u64::from(*count)).map(|()| vec![]),
+            Call::Post(place, count) => state.post(*place, *count).map(|()| vec![]),
             Call::Slot => state.slot().map(|(stamp, granted)| vec![stamp as i64, granted.map_or(-1, |p| p as i64)]),
             Call::Run(_) => state.run(&mut lent).map(|()| vec![]),
             Call::Figures(place, transfers) => {
-                state.figures(*place, u64::from(*transfers)).map(|(wait, finish)| vec![wait as i64, finish as i64])
+                state.figures(*place, *transfers).map(|(wait, finish)| vec![wait as i64, finish as i64])
             }
             Call::Lead(place, log) => state.lead(*place, log).map(|lead| vec![lead]),
             Call::Write(_) => state.write_table(&mut lent).map(|length| vec![length as i64]),
+            Call::Account(place) => {
+                state.account(*place).map(|account| vec![account.credit as i64, account.backlog as i64])
+            }
+            Call::Standing => state.standing().map(|(slot, places)| vec![slot as i64, places as i64]),
         };
         Told { answer: answer.map_err(turned_by_model), lent, words: words_of(state) }
     }
@@ -100,38 +112,40 @@ pub fn turned_by_model(fault: Fault) -> Turned {
 }
 
 /// A call of any kind, with places and counts on both sides of their limits.
-pub fn any(chance: &mut Chance, state: &State) -> Call {
-    match chance.within(0, 9) {
+pub fn any<const ROOM: usize>(chance: &mut Chance, state: &State<ROOM>) -> Call {
+    match chance.within(0, 11) {
         0..=2 => Call::Post(place(chance, state), count(chance, state)),
         3..=5 => Call::Slot,
         6 => Call::Run(run_length(chance, state)),
         7 => Call::Figures(place(chance, state), transfers(chance)),
         8 => Call::Lead(place(chance, state), log(chance)),
+        9 => Call::Account(place(chance, state)),
+        10 => Call::Standing,
         _ => Call::Write(buffer_length(chance, state)),
     }
 }
 
 /// Mostly a place of the table; else one just beyond, or one whose low bits would do.
-pub fn place(chance: &mut Chance, state: &State) -> usize {
-    let count = state.table.count.clamp(1, PLACES as u64) as usize;
+pub fn place<const ROOM: usize>(chance: &mut Chance, state: &State<ROOM>) -> usize {
+    let count = state.table.count.clamp(1, ROOM as u64) as usize;
     let inside = chance.index(count);
     match chance.within(0, 9) {
-        0 => chance.pick(&[count, 15, 16, 17, 255, 256 + inside, inside + (1 << 32), usize::MAX]),
+        0 => chance.pick(&[count, ROOM, ROOM + 1, 15, 16, 17, 255, 256 + inside, inside + (1 << 32), usize::MAX]),
         _ => inside,
     }
 }
 
 /// Mostly a few; else just what fits the first place's backlog, one more, or far too many.
-pub fn count(chance: &mut Chance, state: &State) -> u32 {
-    let room = MAX_BACKLOG.saturating_sub(state.accounts[0].backlog) as u32;
+pub fn count<const ROOM: usize>(chance: &mut Chance, state: &State<ROOM>) -> u64 {
+    let room = MAX_BACKLOG.saturating_sub(state.accounts[0].backlog);
     match chance.within(0, 9) {
-        0 => chance.pick(&[room, room + 1, 65_535, 65_536, 65_537, u32::MAX]),
-        _ => chance.within(0, 6) as u32,
+        0 => chance.pick(&[room, room + 1, 65_535, 65_536, 65_537, 1 << 32, (1 << 32) + 1, u64::MAX]),
+        _ => chance.within(0, 6),
     }
 }
 
 /// Mostly short; else just up to the last slot number, one more, or as long as a log may be, and longer.
-fn run_length(chance: &mut Chance, state: &State) -> usize {
+fn run_length<const ROOM: usize>(chance: &mut Chance, state: &State<ROOM>) -> usize {
     let left = MAX_SLOT.saturating_sub(state.slot).min(100) as usize;
     match chance.within(0, 99) {
         0 => chance.pick(&[MAX_LOG, MAX_LOG + 1]),
@@ -140,8 +154,8 @@ fn run_length(chance: &mut Chance, state: &State) -> usize {
     }
 }
 
-fn transfers(chance: &mut Chance) -> u32 {
-    chance.pick(&[0, 1, 1, 2, 3, 17, 254, 255, 255, 256, 257, u32::MAX])
+fn transfers(chance: &mut Chance) -> u64 {
+    chance.pick(&[0, 1, 1, 2, 3, 17, 254, 255, 255, 256, 257, (1 << 32) + 1, u64::MAX])
 }
 
 /// Places and idle slots by chance; sometimes as long as a log may be, and longer.
@@ -150,11 +164,11 @@ fn log(chance: &mut Chance) -> Vec<u8> {
         0 => chance.pick(&[MAX_LOG, MAX_LOG + 1]),
         _ => chance.index(60),
     };
-    (0..length).map(|_| if chance.one_in(4) { IDLE } else { chance.index(PLACES) as u8 }).collect()
+    (0..length).map(|_| if chance.one_in(4) { IDLE } else { chance.index(MAX_PLACES) as u8 }).collect()
 }
 
-fn buffer_length(chance: &mut Chance, state: &State) -> usize {
-    let count = state.table.count.min(PLACES as u64);
-    let needed = crate::model::Table { count, ..state.table }.bytes().len();
+fn buffer_length<const ROOM: usize>(chance: &mut Chance, state: &State<ROOM>) -> usize {
+    let count = state.table.count.min(ROOM as u64);
+    let needed = Table { count, ..state.table }.bytes().len();
     chance.pick(&[needed, needed, needed - 1, needed + 7, 0, Arbiter::TABLE_ROOM])
 }

@@ -1,9 +1,8 @@
-//! Generated states: sound ones that no start made, and damaged words.
+//! Generated states, with room for as many places as the caller says: sound ones that no start made, and damaged words.
 
 use super::chance::Chance;
 use super::tables;
-use super::words::Words;
-use crate::model::{State, MAX_BACKLOG, MAX_SLOT};
+use crate::model::{Account, State, MAX_BACKLOG, MAX_SLOT};
 
 /// A slot number, often near its limit.
 pub fn first_slot(chance: &mut Chance) -> u64 {
@@ -15,10 +14,18 @@ pub fn first_slot(chance: &mut Chance) -> u64 {
     }
 }
 
+/// A slot number for a start, one in ten at its limit or beyond it.
+pub fn any_first(chance: &mut Chance) -> u64 {
+    match chance.within(0, 9) {
+        0 => chance.pick(&[MAX_SLOT, MAX_SLOT + 1, 1 << 63, u64::MAX]),
+        _ => first_slot(chance),
+    }
+}
+
 /// A sound state that most likely no calls lead to: credits are moved downward in the table, and a need may be out of reach.
-pub fn invented(chance: &mut Chance) -> State {
+pub fn invented<const ROOM: usize>(chance: &mut Chance) -> State<ROOM> {
     let table = tables::accepted(chance);
-    let mut state = State { table, slot: first_slot(chance), ..State::default() };
+    let mut state = State { table, slot: first_slot(chance), accounts: [Account::default(); ROOM] };
     let mut room = 0;
     for place in 0..table.count as usize {
         room += table.requestors[place].burst;
@@ -36,8 +43,8 @@ pub fn invented(chance: &mut Chance) -> State {
 
 /// A state with one credit raised until the credits up to its place come to the bursts up to it, or to one more; any credit above
 /// it may stand in its way, and those below it may then be too many.
-pub fn brimful(chance: &mut Chance) -> State {
-    let mut state = invented(chance);
+pub fn brimful<const ROOM: usize>(chance: &mut Chance) -> State<ROOM> {
+    let mut state: State<ROOM> = invented(chance);
     let place = chance.index(state.table.count as usize);
     let bursts = state.table.bursts_above(place + 1);
     let above: u64 = state.accounts[..place].iter().map(|account| account.credit).sum();
@@ -51,7 +58,7 @@ fn backlog(chance: &mut Chance) -> u64 {
 }
 
 /// Changes up to three words, each to a number beside the old one or at an edge of a field.
-pub fn damage(chance: &mut Chance, words: &mut Words) {
+pub fn damage(chance: &mut Chance, words: &mut [u64]) {
     for _ in 0..chance.pick(&[1, 1, 1, 2, 3]) {
         let at = chance.index(words.len());
         words[at] = edge(chance, words[at]);
@@ -60,7 +67,7 @@ pub fn damage(chance: &mut Chance, words: &mut Words) {
 
 fn edge(chance: &mut Chance, word: u64) -> u64 {
     let beside = [word.wrapping_add(1), word.wrapping_sub(1), word.wrapping_add(1 << 32), word | 1 << 63];
-    let edges = [0, 1, 16, 17, 255, 256, 65_535, 65_536, 16_777_216, 16_777_217, 1 << 30, (1 << 30) + 1];
+    let edges = [0, 1, 4, 5, 6, 16, 17, 255, 256, 65_535, 65_536, 16_777_216, 16_777_217, 1 << 30, (1 << 30) + 1];
     let large = [u64::from(u32::MAX), 1 << 32, MAX_SLOT - 1, MAX_SLOT, MAX_SLOT + 1, 1 << 63, u64::MAX];
     match chance.within(0, 3) {
         0 | 1 => chance.pick(&beside),

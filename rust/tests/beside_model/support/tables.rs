@@ -1,13 +1,14 @@
-//! Generated tables, their bytes and their numbers: accepted ones, ones with numbers that are out of their limits, and damaged bytes.
+//! Generated tables, their bytes and their numbers: accepted ones, ones with numbers that are out of their limits, and damaged bytes. Each
+//! has room for as many places as the caller says.
 
 use justrave::{Slots, Transfers};
 
 use super::chance::Chance;
-use crate::model::{Requestor, Table, PLACES};
+use crate::model::{Requestor, Table};
 
 /// A table that is accepted.
-pub fn accepted(chance: &mut Chance) -> Table {
-    let mut table = Table { count: count(chance), ..Table::default() };
+pub fn accepted<const ROOM: usize>(chance: &mut Chance) -> Table<ROOM> {
+    let mut table = Table { count: count(chance, ROOM), ..Table::default() };
     table.denominator = denominator(chance, table.count);
     let rates = rates(chance, table.denominator, table.count);
     for (row, rate) in table.requestors.iter_mut().zip(rates) {
@@ -34,9 +35,9 @@ pub fn tight(chance: &mut Chance) -> Table {
     table
 }
 
-fn count(chance: &mut Chance) -> u64 {
-    let most = chance.pick(&[1, 2, 3, 4, 5, 8, PLACES as u64]);
-    chance.within(1, most)
+fn count(chance: &mut Chance, room: usize) -> u64 {
+    let most = chance.pick(&[1, 2, 3, 4, 5, 8, room]).min(room);
+    chance.within(1, most as u64)
 }
 
 /// At least one for each place.
@@ -77,7 +78,7 @@ fn within(chance: &mut Chance, finish: u64) -> u64 {
 }
 
 /// A table with up to three numbers that are likely out of their limits. N keeps to the rows that are there.
-pub fn doubtful(chance: &mut Chance) -> Table {
+pub fn doubtful<const ROOM: usize>(chance: &mut Chance) -> Table<ROOM> {
     let mut table = accepted(chance);
     for _ in 0..chance.within(1, 3) {
         change_number(chance, &mut table);
@@ -85,7 +86,7 @@ pub fn doubtful(chance: &mut Chance) -> Table {
     table
 }
 
-fn change_number(chance: &mut Chance, table: &mut Table) {
+fn change_number<const ROOM: usize>(chance: &mut Chance, table: &mut Table<ROOM>) {
     let place = chance.index(table.count as usize);
     let most = 4_294_967_295;
     let d = table.denominator;
@@ -129,9 +130,10 @@ fn long_form(chance: &mut Chance) -> Vec<u8> {
     chance.pick(&forms).to_vec()
 }
 
-/// Bytes of every kind: accepted, with numbers out of their limits, with another N, damaged, and without any plan.
+/// Bytes of every kind: accepted, with numbers out of their limits, with another N, damaged, and without any plan. N is often above a
+/// smaller room.
 pub fn bytes(chance: &mut Chance) -> Vec<u8> {
-    let table = match chance.within(0, 3) {
+    let table: Table = match chance.within(0, 3) {
         0 | 1 => accepted(chance),
         2 => crowded(chance),
         _ => doubtful(chance),
@@ -148,7 +150,7 @@ pub fn bytes(chance: &mut Chance) -> Vec<u8> {
 }
 
 /// A table with one rate that takes the sum just past D, if it has two places or more; the needs are not what is wrong with it.
-fn crowded(chance: &mut Chance) -> Table {
+fn crowded<const ROOM: usize>(chance: &mut Chance) -> Table<ROOM> {
     let mut table = accepted(chance);
     let spare = table.denominator - table.used().iter().map(|row| row.rate).sum::<u64>();
     let place = chance.index(table.count as usize);
@@ -167,18 +169,19 @@ fn other_count(chance: &mut Chance, table: Table) -> Vec<u8> {
 }
 
 /// A table given as numbers, of every kind: accepted, with numbers out of their limits, with another N, and with numbers past its
-/// last place. N has at most 32 bits, and so has every number but the slots of a need.
-pub fn numbers(chance: &mut Chance) -> Table {
+/// last place. N has at most 32 bits, and so has every number but those of a need.
+pub fn numbers<const ROOM: usize>(chance: &mut Chance) -> Table<ROOM> {
     let mut table = match chance.within(0, 5) {
         0..=2 => accepted(chance),
         3 => crowded(chance),
         _ => doubtful(chance),
     };
     for row in &mut table.requestors {
-        (row.rate, row.need) = (row.rate.min(4_294_967_295), row.need.min(4_294_967_295));
+        row.rate = row.rate.min(4_294_967_295);
     }
+    let room = ROOM as u64;
     match chance.within(0, 9) {
-        0 => table.count = chance.pick(&[0, 1, 2, 15, 16, 17, 18, 255, 256 + table.count, 4_294_967_295]),
+        0 => table.count = chance.pick(&[0, 1, 2, room - 1, room, room + 1, 17, 255, 256 + table.count, 4_294_967_295]),
         1 | 2 => put_past_the_last(chance, &mut table),
         _ => {}
     }
@@ -186,20 +189,17 @@ pub fn numbers(chance: &mut Chance) -> Table {
 }
 
 /// A number past place N - 1 that is not 0, if there is such a place.
-fn put_past_the_last(chance: &mut Chance, table: &mut Table) {
+fn put_past_the_last<const ROOM: usize>(chance: &mut Chance, table: &mut Table<ROOM>) {
     let count = table.count as usize;
-    if count < PLACES {
-        let place = count + chance.index(PLACES - count);
+    if count < ROOM {
+        let place = count + chance.index(ROOM - count);
         let number = chance.pick(&[1, 4, 255, 65_536, 4_294_967_295]);
         *number_at(table, 2 + 4 * place + chance.index(4)) = number;
     }
 }
 
-/// How many numbers a table has that is given as numbers.
-pub const NUMBERS: usize = 2 + 4 * PLACES;
-
 /// One of a table's numbers: D, N, then rate, burst, need and within of each place.
-pub fn number_at(table: &mut Table, at: usize) -> &mut u64 {
+pub fn number_at<const ROOM: usize>(table: &mut Table<ROOM>, at: usize) -> &mut u64 {
     match at.checked_sub(2) {
         None if at == 0 => &mut table.denominator,
         None => &mut table.count,
@@ -215,13 +215,13 @@ pub fn number_at(table: &mut Table, at: usize) -> &mut u64 {
     }
 }
 
-/// The model's table as the wrapper takes it. N, and each number but the slots of a need, has at most 32 bits.
-pub fn for_product(table: &Table) -> justrave::Table {
+/// The model's table as the wrapper takes it. N, and each number but those of a need, has at most 32 bits.
+pub fn for_product<const ROOM: usize>(table: &Table<ROOM>) -> justrave::Table<ROOM> {
     let narrow = |number: u64| u32::try_from(number).expect("a number of 32 bits");
     let requestor = |row: Requestor| justrave::Requestor {
         rate: narrow(row.rate),
         burst: narrow(row.burst),
-        need: Transfers(narrow(row.need)),
+        need: Transfers(row.need),
         within: Slots(row.within),
     };
     justrave::Table {

@@ -1,38 +1,34 @@
-//! The model's state as the library's words: D, N, the slot number; rate, burst, need and within for each place; credit and
-//! backlog for each place.
+//! The model's state as the library's words, with room for as many places as the model has: D, N and the slot number; then for each
+//! place together rate, burst, need, within, credit and backlog. No other test knows where a field stands.
 
-use justrave::Arbiter;
+use crate::model::{Account, Requestor, State, Table};
 
-use crate::model::{Account, Requestor, State, Table, PLACES};
+const HEAD: usize = 3;
+const PLACE: usize = 6;
 
-pub type Words = [u64; Arbiter::STATE_WORDS];
-
-const ROWS: usize = 3;
-const ACCOUNTS: usize = ROWS + 4 * PLACES;
-
-pub fn words_of(state: &State) -> Words {
-    let mut words = [0; Arbiter::STATE_WORDS];
-    words[..ROWS].copy_from_slice(&[state.table.denominator, state.table.count, state.slot]);
-    for (place, row) in state.table.requestors.iter().enumerate() {
-        words[ROWS + 4 * place..][..4].copy_from_slice(&[row.rate, row.burst, row.need, row.within]);
-    }
-    for (place, account) in state.accounts.iter().enumerate() {
-        words[ACCOUNTS + 2 * place..][..2].copy_from_slice(&[account.credit, account.backlog]);
-    }
-    words
+pub fn words_of<const ROOM: usize>(state: &State<ROOM>) -> Vec<u64> {
+    let head = [state.table.denominator, state.table.count, state.slot];
+    let place = |(row, account): (&Requestor, &Account)| {
+        [row.rate, row.burst, row.need, row.within, account.credit, account.backlog]
+    };
+    head.into_iter().chain(state.table.requestors.iter().zip(&state.accounts).flat_map(place)).collect()
 }
 
-pub fn state_of(words: &Words) -> State {
-    let row = |place: usize| &words[ROWS + 4 * place..][..4];
-    let requestor = |row: &[u64]| Requestor { rate: row[0], burst: row[1], need: row[2], within: row[3] };
-    let account = |place: usize| &words[ACCOUNTS + 2 * place..][..2];
+/// Of as many words as there are for the room.
+pub fn state_of<const ROOM: usize>(words: &[u64]) -> State<ROOM> {
+    assert_eq!(words.len(), HEAD + PLACE * ROOM);
+    let place = |place: usize| &words[HEAD + PLACE * place..][..PLACE];
+    let requestor = |at: usize| match *place(at) {
+        [rate, burst, need, within, ..] => Requestor { rate, burst, need, within },
+        _ => unreachable!("a place has {PLACE} words"),
+    };
+    let account = |at: usize| match *place(at) {
+        [.., credit, backlog] => Account { credit, backlog },
+        _ => unreachable!("a place has {PLACE} words"),
+    };
     State {
-        table: Table {
-            denominator: words[0],
-            count: words[1],
-            requestors: std::array::from_fn(|place| requestor(row(place))),
-        },
+        table: Table { denominator: words[0], count: words[1], requestors: std::array::from_fn(requestor) },
         slot: words[2],
-        accounts: std::array::from_fn(|place| Account { credit: account(place)[0], backlog: account(place)[1] }),
+        accounts: std::array::from_fn(account),
     }
 }

@@ -1,8 +1,6 @@
 -- `arbiter::admission::check_finish` meets its contract. One gate. Assumes nothing.
-use mathlib.Core.Path.{_∙_}
 use native.Mathlib.Omega.{arith}
 use borrow.Author.Tests.{lt-leb, le-leb}
-use borrow.Author.Needs.{needs}
 use Rattle.arbiter.specs.Limits.{maxPlaces}
 use Rattle.arbiter.specs.Refusals.{gate}
 use Rattle.arbiter.specs.Figures.{finish, finishVerdict}
@@ -22,7 +20,7 @@ element-copy-out-r : tie.Need-element-copy-out-r
 element-copy-out-r c = omega (arith, facts c .place)
 
 finish-requires : tie.Need-finish-requires
-finish-requires c κs = search needs
+finish-requires c κs = let a = c .before .before .before in (a .pre .0, a .pre .1, facts a .own-need)
 
 returns : tie.Need-returns
 unfolding finishVerdict gate

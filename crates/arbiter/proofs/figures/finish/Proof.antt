@@ -1,7 +1,4 @@
--- `arbiter::figures::finish` meets its contract. The wait, and j times D, which fits since j has 32 bits and D is at most
--- 65,535. Assumes nothing.
-use mathlib.Core.Path.{_∙_}
-use Prim.Native.Nat.{_≤_}
+-- `arbiter::figures::finish` meets its contract. The wait, and j times D, which fits since both are within their limits. Assumes nothing.
 use native.Mathlib.Omega.{arith}
 use native.Mathlib.Nat.{mul-le-mul}
 use borrow.Author.Needs.{needs}
@@ -25,36 +22,22 @@ element-copy-out-r c = omega (arith, facts c .place)
 wait-requires : tie.Need-wait-requires
 wait-requires c κs = search needs
 
-cast-rounded-up : tie.Need-cast-rounded-up
-cast-rounded-up c = search needs
-
-cast-rounded-up-2 : tie.Need-cast-rounded-up-2
-cast-rounded-up-2 c = search needs
-
 mul-rounded-up : tie.Need-mul-rounded-up
 mul-rounded-up c =
     let a = c .before .before .before in
-    let j : a .args .j .0 ≤ 4294967295 = omega (arith, c .struct-known .given) in
-    let m = mul-le-mul j (facts a .denominator-most) in
+    let m = mul-le-mul (a .pre .2) (facts a .denominator-most) in
     omega (arith, m)
-
-cast-rounded-up-3 : tie.Need-cast-rounded-up-3
-cast-rounded-up-3 c =
-    let f = facts (c .before .before .before) in
-    omega (arith, f .rates, f .denominator-most)
 
 rounded-up-requires : tie.Need-rounded-up-requires
 rounded-up-requires c κs =
     let a = c .before .before .before in
-    let j : a .args .j .0 ≤ 4294967295 = omega (arith, c .struct-known .given) in
-    let m = mul-le-mul j (facts a .denominator-most) in
+    let m = mul-le-mul (a .pre .2) (facts a .denominator-most) in
     omega (arith, m, facts a .own-rate, facts a .rates, facts a .denominator-most)
 
 add-t15 : tie.Need-add-t15
 add-t15 c =
     let a = c .before .before .before .before .before in
-    let j : a .args .j .0 ≤ 4294967295 = omega (arith, c .before .before .struct-known .given) in
-    let m = mul-le-mul j (facts a .denominator-most) in
+    let m = mul-le-mul (a .pre .2) (facts a .denominator-most) in
     omega (arith, m, facts a .rates, facts a .denominator-most, c .before .before .before .wait .ensures .1, c .before .rounded-up .ensures .1)
 
 returns : tie.Need-returns
@@ -70,10 +53,7 @@ finish-spec =
     mul-r
     element-copy-out-r
     wait-requires
-    cast-rounded-up
-    cast-rounded-up-2
     mul-rounded-up
-    cast-rounded-up-3
     rounded-up-requires
     add-t15
     returns)

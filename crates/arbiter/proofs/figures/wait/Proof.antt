@@ -3,7 +3,6 @@
 use mathlib.Core.Path.{sym, ap₂, _∙_}
 use Prim.Native.Nat.{_-_}
 use native.Mathlib.Omega.{arith}
-use borrow.Author.Needs.{needs}
 use Rattle.arbiter.specs.Limits.{maxPlaces}
 use Rattle.arbiter.specs.Figures.{waitOf}
 use Rattle.arbiter.proofs.Shapes.{table-rows}
@@ -15,37 +14,33 @@ use Rattle.arbiter.proofs.figures.wait.Tie as tie
 facts : (c : tie.Start) → Above maxPlaces (c .args .t) (c .args .p)
 facts c = above maxPlaces (c .args .t) (c .args .p) (table-rows (c .args .t) (c .good .0)) (c .pre .0) (c .pre .1)
 
-cast-left : tie.Need-cast-left
-cast-left c = search needs
-
 rates-above-requires : tie.Need-rates-above-requires
-rates-above-requires c κs = omega (arith, facts c .place)
+rates-above-requires c κs = (omega (arith, facts c .place), omega (arith, facts c .rates, facts c .denominator-most))
 
 sub-left : tie.Need-sub-left
-sub-left c = omega (arith, facts (c .before) .rates, c .rates-above .ensures .0)
+sub-left c = omega (arith, facts (c .before) .rates, c .rates-above .ensures)
 
 bursts-above-requires : tie.Need-bursts-above-requires
-bursts-above-requires c κs = omega (arith, facts (c .before) .place)
+bursts-above-requires c κs = (omega (arith, facts (c .before) .place), omega (arith, facts (c .before) .bursts-most))
 
 rounded-up-requires : tie.Need-rounded-up-requires
 rounded-up-requires c κs =
     let f = facts (c .before .before) in
-    omega (arith, f .place, f .own-rate, f .rates, f .denominator-most, c .before .rates-above .ensures .0, c .bursts-above .ensures .1)
+    omega (arith, f .place, f .own-rate, f .rates, f .denominator-most, c .before .rates-above .ensures, c .bursts-above .ensures, f .bursts-most)
 
 returns : tie.Need-returns
 returns c =
     let f = facts (c .before .before .before) in
-    let bursts = c .before .bursts-above .ensures .0 ∙ sym (f .same-bursts) in
-    let rates = c .before .before .rates-above .ensures .0 ∙ sym (f .same-rates) in (
+    let bursts = c .before .bursts-above .ensures ∙ sym (f .same-bursts) in
+    let rates = c .before .before .rates-above .ensures ∙ sym (f .same-rates) in (
       c .rounded-up .ensures .0 ∙ ap₂ (λ b r. waitOf b (c .before .before .before .args .t .denominator - r)) bursts rates,
-      omega (arith, f .place, f .own-rate, f .rates, f .denominator-most, c .before .before .rates-above .ensures .0, c .before .bursts-above .ensures .1, c .rounded-up .ensures .1),
+      omega (arith, f .place, f .own-rate, f .rates, f .denominator-most, c .before .before .rates-above .ensures, c .before .bursts-above .ensures, f .bursts-most, c .rounded-up .ensures .1),
     )
 
 pub wait-spec : {M : Type 1} → statement M
 wait-spec =
     tie.close
     (tie.spec
-    cast-left
     rates-above-requires
     sub-left
     bursts-above-requires

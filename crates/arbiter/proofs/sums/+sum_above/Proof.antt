@@ -33,7 +33,10 @@ sum-above-sum-above-requires : (t : ℕ) → sum-above-lts.Need-sum-above-requir
   sum-above-below t,
   sum-above.Post,
 ) (sum-above-at t) sum-above.Post
-sum-above-sum-above-requires t c κs = (omega arith, omega arith)
+sum-above-sum-above-requires t c κs =
+    let a = c .before .before in
+    let e = total-take-pred (λ x. x) 0 refl (a .args .p) (a .args .numbers .now) (omega arith) in
+    (omega arith, (omega arith, omega (arith, e, a .pre .1 .1)))
 
 sum-above-mul-result :
     (t : ℕ) →
@@ -49,14 +52,6 @@ sum-above-shared-slice-read-result : (t : ℕ) → sum-above-lts.Need-shared-sli
 ) (sum-above-at t) sum-above.Post
 sum-above-shared-slice-read-result t c = omega arith
 
-sum-above-cast-result : (t : ℕ) → sum-above-lts.Need-cast-result (
-  sum-above-below t,
-  sum-above.Post,
-) (sum-above-at t) sum-above.Post
-sum-above-cast-result t c =
-    let narrow = c .shared-slice-known2 .given (c .before .before .before .before .args .p - 1) in
-    omega (arith, narrow)
-
 sum-above-add-result :
     (t : ℕ) →
     sum-above-lts.Need-add-result
@@ -64,14 +59,15 @@ sum-above-add-result :
     (sum-above-at t)
     sum-above.Post
 sum-above-add-result t c =
-    let narrow = c .shared-slice-known2 .given (c .before .before .before .before .args .p - 1) in
-    omega (arith, c .before .sum-above .ensures .1, narrow, c .before .before .before .before .pre)
+    let a = c .before .before .before .before in
+    let e = total-take-pred (λ x. x) 0 refl (a .args .p) (a .args .numbers .now) (omega arith) in
+    omega (arith, e, c .before .sum-above .ensures, a .pre .1 .1)
 
 sum-above-returns :
     (t : ℕ) →
     sum-above-lts.Need-returns (sum-above-below t, sum-above.Post) (sum-above-at t) sum-above.Post
 unfolding total
-sum-above-returns t c = (rw (c .if1 .taken), omega arith)
+sum-above-returns t c = rw (c .if1 .taken)
 
 sum-above-returns-2 :
     (t : ℕ) →
@@ -81,9 +77,8 @@ sum-above-returns-2 :
     sum-above.Post
 sum-above-returns-2 t c =
     let a = c .before .before .before .before in
-    let narrow = c .shared-slice-known2 .given (a .args .p - 1) in
     let e = total-take-pred (λ x. x) 0 refl (a .args .p) (a .args .numbers .now) (omega arith) in
-    (omega (arith, e, c .before .sum-above .ensures .0), omega (arith, c .before .sum-above .ensures .1, narrow))
+    omega (arith, e, c .before .sum-above .ensures)
 
 pub +sum-above-spec : {M : Type 1} → statement M
 +sum-above-spec =
@@ -97,7 +92,6 @@ pub +sum-above-spec : {M : Type 1} → statement M
     (sum-above-sum-above-requires t)
     (sum-above-mul-result t)
     (sum-above-shared-slice-read-result t)
-    (sum-above-cast-result t)
     (sum-above-add-result t)
     (sum-above-returns t)
     (sum-above-returns-2 t)

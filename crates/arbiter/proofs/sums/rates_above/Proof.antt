@@ -1,6 +1,5 @@
 -- `arbiter::sums::rates_above` meets its contract. By the sum of the column. Assumes nothing.
 use mathlib.Core.Path.{_≡_, ap, _∙_}
-use Prim.Native.Nat.{_≤_}
 use native.Mathlib.Omega.{arith}
 use borrow.Author.Needs.{needs}
 use lib.ListN.{length, length-map, take}
@@ -23,10 +22,17 @@ slice-aggregate-sum-above : tie.Need-slice-aggregate-sum-above
 slice-aggregate-sum-above c = search needs
 
 sum-above-requires : tie.Need-sum-above-requires
-sum-above-requires c κs = (c .before .before .before .pre, rw (c .before .before .columns-of .ensures .0) (omega (arith, c .before .before .before .pre, length-map (c .before .before .before .args .t .requestors) rate, rows (c .before .before .before))))
+sum-above-requires c κs =
+    let a = c .before .before .before in
+    rw (c .before .before .columns-of .ensures .0, total-take-map (λ x. x) rate (a .args .p) (a .args .t .requestors))
+    (omega (arith, a .pre .0, length-map (a .args .t .requestors) rate, rows a), a .pre .1)
 
 returns : tie.Need-returns
-returns c = (c .sum-above .ensures .0 ∙ ap (λ l. total (λ x. x) (take (c .before .before .before .before .args .p) l)) (c .before .before .before .columns-of .ensures .0) ∙ total-take-map (λ x. x) rate (c .before .before .before .before .args .p) (c .before .before .before .before .args .t .requestors), c .sum-above .ensures .1)
+returns c =
+    let a = c .before .before .before .before in
+    c .sum-above .ensures
+    ∙ ap (λ l. total (λ x. x) (take (a .args .p) l)) (c .before .before .before .columns-of .ensures .0)
+    ∙ total-take-map (λ x. x) rate (a .args .p) (a .args .t .requestors)
 
 pub rates-above-spec : {M : Type 1} → statement M
 rates-above-spec =

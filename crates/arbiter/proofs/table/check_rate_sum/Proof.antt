@@ -9,16 +9,13 @@ use Rattle.arbiter.proofs.table.check_rate_sum.Tie as tie
 rates-above-requires : tie.Need-rates-above-requires
 rates-above-requires c κs = search needs
 
-cast-if1 : tie.Need-cast-if1
-cast-if1 c = search needs
-
 returns : tie.Need-returns
 unfolding gate rateSumVerdict
-returns c = rw (le-leb _ _ (rw (c .before .rates-above .ensures .0) at (c .if1 .taken)))
+returns c = rw (le-leb _ _ (rw (c .before .rates-above .ensures) at (c .if1 .taken)))
 
 returns-2 : tie.Need-returns-2
 unfolding gate rateSumVerdict
-returns-2 c = rw (lt-leb _ _ (rw (c .before .rates-above .ensures .0) at (c .if1 .left)))
+returns-2 c = rw (lt-leb _ _ (rw (c .before .rates-above .ensures) at (c .if1 .left)))
 
 pub check-rate-sum-spec : {M : Type 1} → statement M
-check-rate-sum-spec = tie.close (tie.spec rates-above-requires cast-if1 returns returns-2)
+check-rate-sum-spec = tie.close (tie.spec rates-above-requires returns returns-2)

@@ -10,26 +10,17 @@ use Rattle.arbiter.proofs.table.check_row.Tie as tie
 of-rate-requires : tie.Need-of-rate-requires
 of-rate-requires c κs = search needs
 
-cast-hold : tie.Need-cast-hold
-cast-hold c = search needs
-
 hold-requires : tie.Need-hold-requires
 hold-requires c κs = search needs
 
 of-burst-requires : tie.Need-of-burst-requires
 of-burst-requires c κs = search needs
 
-cast-hold-2 : tie.Need-cast-hold-2
-cast-hold-2 c = search needs
-
 hold-requires-2 : tie.Need-hold-requires-2
 hold-requires-2 c κs = search needs
 
 of-need-requires : tie.Need-of-need-requires
 of-need-requires c κs = search needs
-
-cast-hold-3 : tie.Need-cast-hold-3
-cast-hold-3 c = search needs
 
 hold-requires-3 : tie.Need-hold-requires-3
 hold-requires-3 c κs = search needs
@@ -52,9 +43,9 @@ first-fault-requires-3 c κs = search needs
 returns : tie.Need-returns
 unfolding rowVerdict
 returns c =
-    let rate = held-by _ _ _ _ (c .before .before .before .before .before .before .before .before .before .before .before .hold .ensures) (c .before .before .before .before .before .before .before .before .before .before .before .before .before .of-rate .ensures) in
-    let burst = held-by _ _ _ _ (c .before .before .before .before .before .before .before .before .hold2 .ensures) (c .before .before .before .before .before .before .before .before .before .before .of-burst .ensures) in
-    let need = held-by _ _ _ _ (c .before .before .before .before .before .hold3 .ensures) (c .before .before .before .before .before .before .before .of-need .ensures) in
+    let rate = held-by _ _ _ _ (c .before .before .before .before .before .before .before .before .before .hold .ensures) (c .before .before .before .before .before .before .before .before .before .before .of-rate .ensures) in
+    let burst = held-by _ _ _ _ (c .before .before .before .before .before .before .before .hold2 .ensures) (c .before .before .before .before .before .before .before .before .of-burst .ensures) in
+    let need = held-by _ _ _ _ (c .before .before .before .before .before .hold3 .ensures) (c .before .before .before .before .before .before .of-need .ensures) in
     let within = held-by _ _ _ _ (c .before .before .before .hold4 .ensures) (c .before .before .before .before .of-within .ensures) in
     c .first-fault3 .ensures ∙ rw (c .before .first-fault2 .ensures, c .before .before .first-fault .ensures, rate, burst, need, within)
 
@@ -63,13 +54,10 @@ check-row-spec =
     tie.close
     (tie.spec
     of-rate-requires
-    cast-hold
     hold-requires
     of-burst-requires
-    cast-hold-2
     hold-requires-2
     of-need-requires
-    cast-hold-3
     hold-requires-3
     of-within-requires
     hold-requires-4

@@ -34,32 +34,29 @@ mul-a c = omega (arith, c .before .before .before .before .pre .0, c .loop-test 
 element-copy-out-a : tie.Need-element-copy-out-a Inv-loop μ-loop
 element-copy-out-a c = omega (arith, c .before .before .before .before .pre .0, c .loop-test .taken)
 
-cast-put-item : tie.Need-cast-put-item Inv-loop μ-loop
-cast-put-item c = search needs
-
 sub-put-item : tie.Need-sub-put-item Inv-loop μ-loop
-sub-put-item c = put-inside (c .before .before .before .loop .inv .1)
+sub-put-item c = put-inside (c .before .before .loop .inv .1)
 
 part-put-item-start : tie.Need-part-put-item-start Inv-loop μ-loop
-part-put-item-start c = put-inside (c .before .before .before .loop .inv .1)
+part-put-item-start c = put-inside (c .before .before .loop .inv .1)
 
 part-put-item-end : tie.Need-part-put-item-end Inv-loop μ-loop
 part-put-item-end c = search needs
 
 put-item-requires : tie.Need-put-item-requires Inv-loop μ-loop
-put-item-requires c κs = put-room (c .before .before .before .before .loop .inv .1) (spacedCredit (accountAt (c .before .before .before .before .loop .p) (c .before .before .before .before .before .before .before .args .t1 .accounts))) (credits-fit (c .before .before .before .before .before .before .before .args .t1 .accounts) (c .before .before .before .before .loop .p) (c .before .before .before .before .before .before .before .args .t1 .table .count) _ (c .before .before .before .loop-test .taken) (inside (c .before .before .before .before .before .before .before)) (fits (c .before .before .before .before .before .before .before)))
+put-item-requires c κs = put-room (c .before .before .before .loop .inv .1) (spacedCredit (accountAt (c .before .before .before .loop .p) (c .before .before .before .before .before .before .args .t1 .accounts))) (credits-fit (c .before .before .before .before .before .before .args .t1 .accounts) (c .before .before .before .loop .p) (c .before .before .before .before .before .before .args .t1 .table .count) _ (c .before .before .loop-test .taken) (inside (c .before .before .before .before .before .before)) (fits (c .before .before .before .before .before .before)))
 
 add-at : tie.Need-add-at Inv-loop μ-loop
-add-at c = let more = put-next (c .before .before .before .before .before .before .before .loop .inv .1) _ (credits-fit (c .before .before .before .before .before .before .before .before .before .before .args .t1 .accounts) (c .before .before .before .before .before .before .before .loop .p) (c .before .before .before .before .before .before .before .before .before .before .args .t1 .table .count) _ (c .before .before .before .before .before .before .loop-test .taken) (inside (c .before .before .before .before .before .before .before .before .before .before)) (fits (c .before .before .before .before .before .before .before .before .before .before))) (c .before .before .put-item .ensures) in omega (arith, more .fits, c .before .before .before .before .before .before .before .before .before .before .good)
+add-at c = let more = put-next (c .before .before .before .before .before .before .loop .inv .1) _ (credits-fit (c .before .before .before .before .before .before .before .before .before .args .t1 .accounts) (c .before .before .before .before .before .before .loop .p) (c .before .before .before .before .before .before .before .before .before .args .t1 .table .count) _ (c .before .before .before .before .before .loop-test .taken) (inside (c .before .before .before .before .before .before .before .before .before)) (fits (c .before .before .before .before .before .before .before .before .before))) (c .before .before .put-item .ensures) in omega (arith, more .fits, c .before .before .before .before .before .before .before .before .before .good)
 
 add-p : tie.Need-add-p Inv-loop μ-loop
-add-p c = omega (arith, c .before .before .before .before .before .before .before .before .before .before .pre .0, c .before .before .before .before .before .before .loop-test .taken)
+add-p c = omega (arith, c .before .before .before .before .before .before .before .before .before .pre .0, c .before .before .before .before .before .loop-test .taken)
 
 loop-less : tie.Need-loop-less Inv-loop μ-loop
-loop-less c = omega (arith, c .before .before .before .before .before .before .loop-test .taken)
+loop-less c = omega (arith, c .before .before .before .before .before .loop-test .taken)
 
 loop-again : tie.Need-loop-again Inv-loop μ-loop
-loop-again c = let more = put-next (c .before .before .before .before .before .before .before .loop .inv .1) _ (credits-fit (c .before .before .before .before .before .before .before .before .before .before .args .t1 .accounts) (c .before .before .before .before .before .before .before .loop .p) (c .before .before .before .before .before .before .before .before .before .before .args .t1 .table .count) _ (c .before .before .before .before .before .before .loop-test .taken) (inside (c .before .before .before .before .before .before .before .before .before .before)) (fits (c .before .before .before .before .before .before .before .before .before .before))) (c .before .before .put-item .ensures) in (omega (arith, c .before .before .before .before .before .before .loop-test .taken), credits-next (c .before .before .before .before .before .before .before .before .before .before .args .t1 .accounts) (c .before .before .before .before .before .before .before .loop .p) (omega (arith, c .before .before .before .before .before .before .loop-test .taken, inside (c .before .before .before .before .before .before .before .before .before .before))) more)
+loop-again c = let more = put-next (c .before .before .before .before .before .before .loop .inv .1) _ (credits-fit (c .before .before .before .before .before .before .before .before .before .args .t1 .accounts) (c .before .before .before .before .before .before .loop .p) (c .before .before .before .before .before .before .before .before .before .args .t1 .table .count) _ (c .before .before .before .before .before .loop-test .taken) (inside (c .before .before .before .before .before .before .before .before .before)) (fits (c .before .before .before .before .before .before .before .before .before))) (c .before .before .put-item .ensures) in (omega (arith, c .before .before .before .before .before .loop-test .taken), credits-next (c .before .before .before .before .before .before .before .before .before .args .t1 .accounts) (c .before .before .before .before .before .before .loop .p) (omega (arith, c .before .before .before .before .before .loop-test .taken, inside (c .before .before .before .before .before .before .before .before .before))) more)
 
 same-length : tie.Need-same-length Inv-loop μ-loop
 same-length c = put-length (c .before .loop .inv .1)
@@ -76,7 +73,6 @@ put-credits-spec =
     loop-holds
     mul-a
     element-copy-out-a
-    cast-put-item
     sub-put-item
     part-put-item-start
     part-put-item-end

@@ -25,6 +25,11 @@ mul-count c = search needs
 shared-slice-read-count : tie.Need-shared-slice-read-count Inv-loop μ-loop
 shared-slice-read-count c = search needs
 
+cast-t13 : tie.Need-cast-t13 Inv-loop μ-loop
+cast-t13 c =
+    let narrow = c .shared-slice-known2 .given (c .before .before .loop .p) in
+    omega (arith, narrow)
+
 post-requires : tie.Need-post-requires Inv-loop μ-loop
 post-requires c κs = search needs
 
@@ -58,6 +63,7 @@ post-counts-spec =
     loop-holds
     mul-count
     shared-slice-read-count
+    cast-t13
     post-requires
     enum-told
     enum-told-2

@@ -1,15 +1,16 @@
 -- `table_bytes::numbers::numbers_of` meets its contract. The loop's invariant: D, N and the numbers of the first p rows stand in front
 -- of the zeros. Assumes nothing.
-use mathlib.Core.Path.{_≡_, refl, _∙_}
+use mathlib.Core.Path.{_≡_, refl}
 use Prim.Native.Nat.{_+_, _-_, _*_, _≤_}
 use native.Mathlib.Omega.{arith}
 use lib.ListN.{length, replicate}
 use Rattle.lists.specs.Sums.{joined}
 use Rattle.lists.specs.Overwriting.{writtenOver}
-use Rattle.arbiter.specs.Limits.{maxPlaces}
-use Rattle.arbiter.proofs.Checks.{fair}
+use Rattle.arbiter.specs.Limits.{maxPlaces, maxDenominator}
+use Rattle.arbiter.specs.Table.{requestorAt}
+use Rattle.arbiter.proofs.Checks.{Row, fair}
 use Rattle.arbiter.proofs.Shapes.{table-rows}
-use Rattle.table_bytes.proofs.Writings.{numbersTo, row-stored, rows-stored, within-fits}
+use Rattle.table_bytes.proofs.Writings.{numbersTo, row-stored, rows-stored, row-fits}
 use Rattle.table_bytes.proofs.numbers.numbers_of.Statement.{statement}
 use Rattle.table_bytes.proofs.numbers.numbers_of.Tie as tie
 
@@ -23,11 +24,21 @@ abbrev μ-loop : tie.MeasureT-loop
 rows : (c : tie.Start Inv-loop μ-loop) → length (c .args .t1 .requestors) ≡ maxPlaces
 rows c = table-rows (c .args .t1) (c .good .0)
 
+-- D, and the row of the place that comes next, are within their limits
+denominator-most : (c : tie.Start Inv-loop μ-loop) → c .args .t1 .denominator ≤ maxDenominator
+denominator-most c = fair maxPlaces _ (c .pre) .denominator-most
+
+row : (c : tie.After-l Inv-loop μ-loop) → Row (c .before .before .before .before .before .args .t1 .denominator) (requestorAt (c .before .before .before .before .loop .p) (c .before .before .before .before .before .args .t1 .requestors))
+row c = let s = c .before .before .before .before .before in row-fits maxPlaces (s .args .t1) (c .before .before .before .before .loop .p) (rows s) (s .pre) (omega arith)
+
+cast-numbers : tie.Need-cast-numbers Inv-loop μ-loop
+cast-numbers c = omega (arith, denominator-most c)
+
 array-write-numbers : tie.Need-array-write-numbers Inv-loop μ-loop
 array-write-numbers c = omega arith
 
-cast-numbers : tie.Need-cast-numbers Inv-loop μ-loop
-cast-numbers c = omega (arith, fair maxPlaces _ (c .pre) .count-most)
+cast-numbers-2 : tie.Need-cast-numbers-2 Inv-loop μ-loop
+cast-numbers-2 c = omega (arith, fair maxPlaces _ (c .pre) .count-most)
 
 array-write-numbers-2 : tie.Need-array-write-numbers-2 Inv-loop μ-loop
 array-write-numbers-2 c = omega arith
@@ -48,11 +59,17 @@ mul-at c = omega arith
 add-at : tie.Need-add-at Inv-loop μ-loop
 add-at c = omega arith
 
+cast-numbers-3 : tie.Need-cast-numbers-3 Inv-loop μ-loop
+cast-numbers-3 c = omega (arith, row (c .before) .rate-most, denominator-most (c .before .before .before .before .before .before))
+
 mul-numbers : tie.Need-mul-numbers Inv-loop μ-loop
 mul-numbers c = omega arith
 
 array-write-numbers-3 : tie.Need-array-write-numbers-3 Inv-loop μ-loop
 array-write-numbers-3 c = omega arith
+
+cast-numbers-4 : tie.Need-cast-numbers-4 Inv-loop μ-loop
+cast-numbers-4 c = omega (arith, row (c .before .before) .burst-most)
 
 add-numbers : tie.Need-add-numbers Inv-loop μ-loop
 add-numbers c = omega arith
@@ -63,6 +80,9 @@ mul-numbers-2 c = omega arith
 array-write-numbers-4 : tie.Need-array-write-numbers-4 Inv-loop μ-loop
 array-write-numbers-4 c = omega arith
 
+cast-numbers-5 : tie.Need-cast-numbers-5 Inv-loop μ-loop
+cast-numbers-5 c = omega (arith, row (c .before .before .before) .need-most)
+
 add-numbers-2 : tie.Need-add-numbers-2 Inv-loop μ-loop
 add-numbers-2 c = omega arith
 
@@ -72,10 +92,8 @@ mul-numbers-3 c = omega arith
 array-write-numbers-5 : tie.Need-array-write-numbers-5 Inv-loop μ-loop
 array-write-numbers-5 c = omega arith
 
-cast-numbers-2 : tie.Need-cast-numbers-2 Inv-loop μ-loop
-cast-numbers-2 c =
-    let s = c .before .before .before .before .before .before in
-    omega (arith, within-fits maxPlaces _ (c .before .before .before .before .before .loop .p) (rows s) (s .pre) (omega arith))
+cast-numbers-6 : tie.Need-cast-numbers-6 Inv-loop μ-loop
+cast-numbers-6 c = omega (arith, row (c .before .before .before .before) .within-most)
 
 add-numbers-3 : tie.Need-add-numbers-3 Inv-loop μ-loop
 add-numbers-3 c = omega arith
@@ -94,8 +112,8 @@ loop-less c = omega arith
 
 loop-again : tie.Need-loop-again Inv-loop μ-loop
 loop-again c =
-    let s = c .before .before .before .before .before .before in
-    let l = c .before .before .before .before .before .loop in
+    let s = c .before .before .before .before .before .before .before .before .before in
+    let l = c .before .before .before .before .before .before .before .before .loop in
     (omega arith, l .inv .1, row-stored _ _ _ (l .p) (l .inv .2) _ (omega (arith, rows s)) (omega (arith, rows s)) refl)
 
 returns : tie.Need-returns Inv-loop μ-loop
@@ -107,23 +125,27 @@ numbers-of-spec =
     (tie.spec
     Inv-loop
     μ-loop
-    array-write-numbers
     cast-numbers
+    array-write-numbers
+    cast-numbers-2
     array-write-numbers-2
     loop-holds
     mul-r
     element-copy-out-r
     mul-at
     add-at
+    cast-numbers-3
     mul-numbers
     array-write-numbers-3
+    cast-numbers-4
     add-numbers
     mul-numbers-2
     array-write-numbers-4
+    cast-numbers-5
     add-numbers-2
     mul-numbers-3
     array-write-numbers-5
-    cast-numbers-2
+    cast-numbers-6
     add-numbers-3
     mul-numbers-4
     array-write-numbers-6

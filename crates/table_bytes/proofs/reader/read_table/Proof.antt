@@ -67,13 +67,16 @@ part-read-places-end c = search needs
 cast-read-places : tie.Need-cast-read-places
 cast-read-places c = search needs
 
+cast-read-places-2 : tie.Need-cast-read-places-2
+cast-read-places-2 c = search needs
+
 read-places-requires : tie.Need-read-places-requires
-read-places-requires c κs = (took-held (took _ _ (c .before .before .before .before .before .before .before .before .before .before .before .read-field .ensures) (c .before .before .before .before .before .before .before .before .before .before .before .before .of-denominator .ensures) _ (c .before .before .before .before .before .before .before .before .before .x .given .1)), took-held (took _ _ (c .before .before .before .before .before .read-field2 .ensures) (c .before .before .before .before .before .before .of-count .ensures) _ (c .before .before .before .x2 .given .1)))
+read-places-requires c κs = (took-held (took _ _ (c .before .before .before .before .before .before .before .before .before .before .before .before .read-field .ensures) (c .before .before .before .before .before .before .before .before .before .before .before .before .before .of-denominator .ensures) _ (c .before .before .before .before .before .before .before .before .before .before .x .given .1)), took-held (took _ _ (c .before .before .before .before .before .before .read-field2 .ensures) (c .before .before .before .before .before .before .before .of-count .ensures) _ (c .before .before .before .before .x2 .given .1)))
 
 returns-3 : tie.Need-returns-3
 returns-3 c =
-    let d = reach-first _ _ _ (table-begins maxPlaces _) (took _ _ (c .before .before .before .before .before .before .before .before .before .before .before .before .read-field .ensures) (c .before .before .before .before .before .before .before .before .before .before .before .before .before .of-denominator .ensures) _ (c .before .before .before .before .before .before .before .before .before .before .x .given .1)) in
-    let n = reach-next _ _ _ d (took _ _ (c .before .before .before .before .before .before .read-field2 .ensures) (c .before .before .before .before .before .before .before .of-count .ensures) _ (c .before .before .before .before .x2 .given .1)) in
+    let d = reach-first _ _ _ (table-begins maxPlaces _) (took _ _ (c .before .before .before .before .before .before .before .before .before .before .before .before .before .read-field .ensures) (c .before .before .before .before .before .before .before .before .before .before .before .before .before .before .of-denominator .ensures) _ (c .before .before .before .before .before .before .before .before .before .before .before .x .given .1)) in
+    let n = reach-next _ _ _ d (took _ _ (c .before .before .before .before .before .before .before .read-field2 .ensures) (c .before .before .before .before .before .before .before .before .of-count .ensures) _ (c .before .before .before .before .before .x2 .given .1)) in
     c .read-places .ensures ∙ table-read _ _ _ (n .same)
 
 pub read-table-spec : {M : Type 1} → statement M
@@ -99,5 +102,6 @@ read-table-spec =
     part-read-places-start
     part-read-places-end
     cast-read-places
+    cast-read-places-2
     read-places-requires
     returns-3)

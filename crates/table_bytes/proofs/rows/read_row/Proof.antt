@@ -102,36 +102,45 @@ returns-4 c =
     let j = reach-next _ _ _ b (took _ _ (c .before .before .before .before .before .before .before .before .before .read-field3 .ensures) (c .before .before .before .before .before .before .before .before .before .before .of-need .ensures) _ (c .before .before .before .before .before .before .before .x3 .given .1)) in
     (reach-stop _ _ _ j _ (turned-down _ _ (c .before .before .before .read-field4 .ensures) (c .before .before .before .before .of-within .ensures) _ (c .before .c4 .given .1)), omega arith)
 
+cast-t39 : tie.Need-cast-t39
+cast-t39 c = search needs
+
 cast-t40 : tie.Need-cast-t40
 cast-t40 c = search needs
 
+cast-t41 : tie.Need-cast-t41
+cast-t41 c = search needs
+
+cast-t43 : tie.Need-cast-t43
+cast-t43 c = search needs
+
 add-t27 : tie.Need-add-t27
 add-t27 c =
-    let n = reach-first _ _ _ (row-begins _ _ _) (took _ _ (c .before .before .before .before .before .before .before .before .before .before .before .before .before .before .before .before .before .before .before .before .before .before .read-field .ensures) (c .before .before .before .before .before .before .before .before .before .before .before .before .before .before .before .before .before .before .before .before .before .before .before .of-rate .ensures) _ (c .before .before .before .before .before .before .before .before .before .before .before .before .before .before .before .before .before .before .before .before .x .given .1)) in
-    let b = reach-next _ _ _ n (took _ _ (c .before .before .before .before .before .before .before .before .before .before .before .before .before .before .before .before .read-field2 .ensures) (c .before .before .before .before .before .before .before .before .before .before .before .before .before .before .before .before .before .of-burst .ensures) _ (c .before .before .before .before .before .before .before .before .before .before .before .before .before .before .x2 .given .1)) in
-    omega (arith, b .there, c .before .before .before .before .before .before .before .before .before .before .before .before .before .before .before .before .before .before .before .before .before .before .before .before .before .good .0)
+    let n = reach-first _ _ _ (row-begins _ _ _) (took _ _ (c .before .before .before .before .before .before .before .before .before .before .before .before .before .before .before .before .before .before .before .before .before .before .before .before .before .read-field .ensures) (c .before .before .before .before .before .before .before .before .before .before .before .before .before .before .before .before .before .before .before .before .before .before .before .before .before .before .of-rate .ensures) _ (c .before .before .before .before .before .before .before .before .before .before .before .before .before .before .before .before .before .before .before .before .before .before .before .x .given .1)) in
+    let b = reach-next _ _ _ n (took _ _ (c .before .before .before .before .before .before .before .before .before .before .before .before .before .before .before .before .before .before .before .read-field2 .ensures) (c .before .before .before .before .before .before .before .before .before .before .before .before .before .before .before .before .before .before .before .before .of-burst .ensures) _ (c .before .before .before .before .before .before .before .before .before .before .before .before .before .before .before .before .before .x2 .given .1)) in
+    omega (arith, b .there, c .before .before .before .before .before .before .before .before .before .before .before .before .before .before .before .before .before .before .before .before .before .before .before .before .before .before .before .before .good .0)
 
-add-t42 : tie.Need-add-t42
-add-t42 c =
-    let n = reach-first _ _ _ (row-begins _ _ _) (took _ _ (c .before .before .before .before .before .before .before .before .before .before .before .before .before .before .before .before .before .before .before .before .before .before .read-field .ensures) (c .before .before .before .before .before .before .before .before .before .before .before .before .before .before .before .before .before .before .before .before .before .before .before .of-rate .ensures) _ (c .before .before .before .before .before .before .before .before .before .before .before .before .before .before .before .before .before .before .before .before .x .given .1)) in
-    let b = reach-next _ _ _ n (took _ _ (c .before .before .before .before .before .before .before .before .before .before .before .before .before .before .before .before .read-field2 .ensures) (c .before .before .before .before .before .before .before .before .before .before .before .before .before .before .before .before .before .of-burst .ensures) _ (c .before .before .before .before .before .before .before .before .before .before .before .before .before .before .x2 .given .1)) in
-    let j = reach-next _ _ _ b (took _ _ (c .before .before .before .before .before .before .before .before .before .before .read-field3 .ensures) (c .before .before .before .before .before .before .before .before .before .before .before .of-need .ensures) _ (c .before .before .before .before .before .before .before .before .x3 .given .1)) in
-    omega (arith, j .there, c .before .before .before .before .before .before .before .before .before .before .before .before .before .before .before .before .before .before .before .before .before .before .before .before .before .good .0)
+add-t45 : tie.Need-add-t45
+add-t45 c =
+    let n = reach-first _ _ _ (row-begins _ _ _) (took _ _ (c .before .before .before .before .before .before .before .before .before .before .before .before .before .before .before .before .before .before .before .before .before .before .before .before .before .read-field .ensures) (c .before .before .before .before .before .before .before .before .before .before .before .before .before .before .before .before .before .before .before .before .before .before .before .before .before .before .of-rate .ensures) _ (c .before .before .before .before .before .before .before .before .before .before .before .before .before .before .before .before .before .before .before .before .before .before .before .x .given .1)) in
+    let b = reach-next _ _ _ n (took _ _ (c .before .before .before .before .before .before .before .before .before .before .before .before .before .before .before .before .before .before .before .read-field2 .ensures) (c .before .before .before .before .before .before .before .before .before .before .before .before .before .before .before .before .before .before .before .before .of-burst .ensures) _ (c .before .before .before .before .before .before .before .before .before .before .before .before .before .before .before .before .before .x2 .given .1)) in
+    let j = reach-next _ _ _ b (took _ _ (c .before .before .before .before .before .before .before .before .before .before .before .before .before .read-field3 .ensures) (c .before .before .before .before .before .before .before .before .before .before .before .before .before .before .of-need .ensures) _ (c .before .before .before .before .before .before .before .before .before .before .before .x3 .given .1)) in
+    omega (arith, j .there, c .before .before .before .before .before .before .before .before .before .before .before .before .before .before .before .before .before .before .before .before .before .before .before .before .before .before .before .before .good .0)
 
-add-t43 : tie.Need-add-t43
-add-t43 c =
-    let n = reach-first _ _ _ (row-begins _ _ _) (took _ _ (c .before .before .before .before .before .before .before .before .before .before .before .before .before .before .before .before .before .before .before .before .before .before .before .read-field .ensures) (c .before .before .before .before .before .before .before .before .before .before .before .before .before .before .before .before .before .before .before .before .before .before .before .before .of-rate .ensures) _ (c .before .before .before .before .before .before .before .before .before .before .before .before .before .before .before .before .before .before .before .before .before .x .given .1)) in
-    let b = reach-next _ _ _ n (took _ _ (c .before .before .before .before .before .before .before .before .before .before .before .before .before .before .before .before .before .read-field2 .ensures) (c .before .before .before .before .before .before .before .before .before .before .before .before .before .before .before .before .before .before .of-burst .ensures) _ (c .before .before .before .before .before .before .before .before .before .before .before .before .before .before .before .x2 .given .1)) in
-    let j = reach-next _ _ _ b (took _ _ (c .before .before .before .before .before .before .before .before .before .before .before .read-field3 .ensures) (c .before .before .before .before .before .before .before .before .before .before .before .before .of-need .ensures) _ (c .before .before .before .before .before .before .before .before .before .x3 .given .1)) in
-    let l = reach-next _ _ _ j (took _ _ (c .before .before .before .before .before .read-field4 .ensures) (c .before .before .before .before .before .before .of-within .ensures) _ (c .before .before .before .x4 .given .1)) in
-    omega (arith, l .there, c .before .before .before .before .before .before .before .before .before .before .before .before .before .before .before .before .before .before .before .before .before .before .before .before .before .before .good .0)
+add-t46 : tie.Need-add-t46
+add-t46 c =
+    let n = reach-first _ _ _ (row-begins _ _ _) (took _ _ (c .before .before .before .before .before .before .before .before .before .before .before .before .before .before .before .before .before .before .before .before .before .before .before .before .before .before .read-field .ensures) (c .before .before .before .before .before .before .before .before .before .before .before .before .before .before .before .before .before .before .before .before .before .before .before .before .before .before .before .of-rate .ensures) _ (c .before .before .before .before .before .before .before .before .before .before .before .before .before .before .before .before .before .before .before .before .before .before .before .before .x .given .1)) in
+    let b = reach-next _ _ _ n (took _ _ (c .before .before .before .before .before .before .before .before .before .before .before .before .before .before .before .before .before .before .before .before .read-field2 .ensures) (c .before .before .before .before .before .before .before .before .before .before .before .before .before .before .before .before .before .before .before .before .before .of-burst .ensures) _ (c .before .before .before .before .before .before .before .before .before .before .before .before .before .before .before .before .before .before .x2 .given .1)) in
+    let j = reach-next _ _ _ b (took _ _ (c .before .before .before .before .before .before .before .before .before .before .before .before .before .before .read-field3 .ensures) (c .before .before .before .before .before .before .before .before .before .before .before .before .before .before .before .of-need .ensures) _ (c .before .before .before .before .before .before .before .before .before .before .before .before .x3 .given .1)) in
+    let l = reach-next _ _ _ j (took _ _ (c .before .before .before .before .before .before .before .before .read-field4 .ensures) (c .before .before .before .before .before .before .before .before .before .of-within .ensures) _ (c .before .before .before .before .before .before .x4 .given .1)) in
+    omega (arith, l .there, c .before .before .before .before .before .before .before .before .before .before .before .before .before .before .before .before .before .before .before .before .before .before .before .before .before .before .before .before .before .good .0)
 
 returns-5 : tie.Need-returns-5
 returns-5 c =
-    let n = reach-first _ _ _ (row-begins _ _ _) (took _ _ (c .before .before .before .before .before .before .before .before .before .before .before .before .before .before .before .before .before .before .before .before .before .before .before .read-field .ensures) (c .before .before .before .before .before .before .before .before .before .before .before .before .before .before .before .before .before .before .before .before .before .before .before .before .of-rate .ensures) _ (c .before .before .before .before .before .before .before .before .before .before .before .before .before .before .before .before .before .before .before .before .before .x .given .1)) in
-    let b = reach-next _ _ _ n (took _ _ (c .before .before .before .before .before .before .before .before .before .before .before .before .before .before .before .before .before .read-field2 .ensures) (c .before .before .before .before .before .before .before .before .before .before .before .before .before .before .before .before .before .before .of-burst .ensures) _ (c .before .before .before .before .before .before .before .before .before .before .before .before .before .before .before .x2 .given .1)) in
-    let j = reach-next _ _ _ b (took _ _ (c .before .before .before .before .before .before .before .before .before .before .before .read-field3 .ensures) (c .before .before .before .before .before .before .before .before .before .before .before .before .of-need .ensures) _ (c .before .before .before .before .before .before .before .before .before .x3 .given .1)) in
-    let l = reach-next _ _ _ j (took _ _ (c .before .before .before .before .before .read-field4 .ensures) (c .before .before .before .before .before .before .of-within .ensures) _ (c .before .before .before .x4 .given .1)) in
+    let n = reach-first _ _ _ (row-begins _ _ _) (took _ _ (c .before .before .before .before .before .before .before .before .before .before .before .before .before .before .before .before .before .before .before .before .before .before .before .before .before .before .read-field .ensures) (c .before .before .before .before .before .before .before .before .before .before .before .before .before .before .before .before .before .before .before .before .before .before .before .before .before .before .before .of-rate .ensures) _ (c .before .before .before .before .before .before .before .before .before .before .before .before .before .before .before .before .before .before .before .before .before .before .before .before .x .given .1)) in
+    let b = reach-next _ _ _ n (took _ _ (c .before .before .before .before .before .before .before .before .before .before .before .before .before .before .before .before .before .before .before .before .read-field2 .ensures) (c .before .before .before .before .before .before .before .before .before .before .before .before .before .before .before .before .before .before .before .before .before .of-burst .ensures) _ (c .before .before .before .before .before .before .before .before .before .before .before .before .before .before .before .before .before .before .x2 .given .1)) in
+    let j = reach-next _ _ _ b (took _ _ (c .before .before .before .before .before .before .before .before .before .before .before .before .before .before .read-field3 .ensures) (c .before .before .before .before .before .before .before .before .before .before .before .before .before .before .before .of-need .ensures) _ (c .before .before .before .before .before .before .before .before .before .before .before .before .x3 .given .1)) in
+    let l = reach-next _ _ _ j (took _ _ (c .before .before .before .before .before .before .before .before .read-field4 .ensures) (c .before .before .before .before .before .before .before .before .before .of-within .ensures) _ (c .before .before .before .before .before .before .x4 .given .1)) in
     (reach-end _ l, l .there)
 
 pub read-row-spec : {M : Type 1} → statement M
@@ -167,8 +176,11 @@ read-row-spec =
     enum-known-x-4
     enum-known-c-4
     returns-4
+    cast-t39
     cast-t40
+    cast-t41
+    cast-t43
     add-t27
-    add-t42
-    add-t43
+    add-t45
+    add-t46
     returns-5)

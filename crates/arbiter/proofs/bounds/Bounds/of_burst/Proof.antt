@@ -1,14 +1,10 @@
 -- `arbiter::bounds::Bounds::of_burst` meets its contract. Assumes nothing.
 use mathlib.Core.Path.{refl}
-use borrow.Author.Needs.{needs}
 use Rattle.arbiter.proofs.bounds.Bounds.of_burst.Statement.{statement}
 use Rattle.arbiter.proofs.bounds.Bounds.of_burst.Tie as tie
-
-cast-t4 : tie.Need-cast-t4
-cast-t4 c = search needs
 
 returns : tie.Need-returns
 returns c = refl
 
 pub of-burst-spec : {M : Type 1} → statement M
-of-burst-spec = tie.close (tie.spec cast-t4 returns)
+of-burst-spec = tie.close (tie.spec returns)

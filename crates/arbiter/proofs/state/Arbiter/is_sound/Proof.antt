@@ -29,7 +29,7 @@ unfolding sound
 returns c = rw (table-passes (c .before .before), lt-leb _ _ (c .if1 .taken))
 
 accounts-hold-requires : tie.Need-accounts-hold-requires
-accounts-hold-requires c κs = fair maxPlaces _ (table-passes (c .before .before)) .count-most
+accounts-hold-requires c κs = table-passes (c .before .before)
 
 returns-2 : tie.Need-returns-2
 unfolding sound

@@ -1,0 +1,173 @@
+-- The walks of the checks over the rows of words, and each way out of checks 1 to 6. For any room. Assumes nothing.
+use mathlib.Core.Path.{_≡_, refl, ap, sym, _∙_}
+use mathlib.Core.Bool.{Bool, true, false}
+use mathlib.Core.List.{List}
+use Prim.Native.Nat.{ℕ, suc, _+_, _-_, _*_, _≤_, _<_}
+use native.Mathlib.Nat.{mul-le-mul}
+use native.Mathlib.Omega.{arith}
+use lib.ListN.{length, drop, length-take}
+use lib.Seq.{drop-cons, getD-take}
+use Rattle.lists.specs.Sums.{total, every}
+use Rattle.lists.proofs.Tests.{true-false, every-pass, every-stop, every-end}
+use Rattle.arbiter.specs.declared.refusals.Refusal.{Refusal}
+use Rattle.arbiter.specs.declared.table.Requestor.{Requestor}
+use Rattle.arbiter.specs.declared.table.Table.{Table}
+use Rattle.arbiter.specs.Limits.{maxDenominator}
+use Rattle.arbiter.specs.Refusals.{Verdict, faultless, fault, refusal, gate, then}
+use Rattle.arbiter.specs.Table.{denominatorBounds, countBounds, heldTo, rate, burst, noRequestor, requestorClear, requestorAt, requestorsOf, eachPlace, tailVerdict, rateSumVerdict, tableVerdict}
+use Rattle.arbiter.specs.Figures.{burstsAbove, ratesAbove, finishVerdict, finishesVerdict}
+use Rattle.arbiter.specs.State.{isFaultless}
+use Rattle.arbiter.proofs.Checks.{then-open, two-fault, held-open, rates-fit}
+use Rattle.arbiter.proofs.Places.{each-pass, each-stop, each-end}
+use Rattle.layout.specs.Words.{wordCount, roomOf, rowIn}
+use Rattle.admission.specs.Checked.{tableIn, rowsIn, limitsVerdict, rowsVerdict}
+use Rattle.admission.proofs.Rows.{rows-length, row-at, sum-next}
+
+-- ---- a check of the rows of places 0 to N−1
+
+-- the walk from place p on finds what the whole walk finds
+abbrev pub Walked : (ℕ → Requestor → Verdict) → List ℕ → (p : ℕ) → Type 0
+Walked check words p = eachPlace check 0 (requestorsOf (tableIn words)) ≡ eachPlace check p (drop p (requestorsOf (tableIn words)))
+
+module _ (check : ℕ → Requestor → Verdict) (words : List ℕ) (p : ℕ) (w : Walked check words p) where
+  module _ (few : tableIn words .count ≤ roomOf words) (h : p < tableIn words .count) {found : Verdict} (e : found ≡ check p (rowIn words p)) where
+    here : check p (requestorAt p (rowsIn words)) ≡ found
+    here = ap (check p) (row-at words p (omega arith)) ∙ sym e
+
+    long : tableIn words .count ≤ length (rowsIn words)
+    long = omega (arith, rows-length words)
+
+    pub walk-pass : found ≡ faultless → Walked check words (p + 1)
+    walk-pass none = w ∙ each-pass check (rowsIn words) (tableIn words .count) p long h (here ∙ none)
+
+    pub walk-stop : {r : Refusal} → found ≡ fault r → fault r ≡ eachPlace check 0 (requestorsOf (tableIn words))
+    walk-stop {r} some = sym (w ∙ each-stop check (rowsIn words) (tableIn words .count) p long h r (here ∙ some))
+
+    -- the row that does not hold: its fault is the first
+    pub walk-break : isFaultless found ≡ false → found ≡ eachPlace check 0 (requestorsOf (tableIn words))
+    walk-break off = by found refl off
+      where
+        by : (v : Verdict) → found ≡ v → isFaultless v ≡ false → found ≡ eachPlace check 0 (requestorsOf (tableIn words))
+        by faultless f off = true-false off
+        by (fault r) f off = f ∙ walk-stop f
+
+  pub walk-end : tableIn words .count ≤ p → faultless ≡ eachPlace check 0 (requestorsOf (tableIn words))
+  walk-end past = sym (w ∙ each-end check (rowsIn words) (tableIn words .count) p past)
+
+-- ---- check 7, from the last place up
+
+module _ (words : List ℕ) where
+  abbrev check : ℕ → Requestor → Verdict
+  check = finishVerdict (tableIn words .denominator) (requestorsOf (tableIn words))
+
+  -- the places from p on have been looked at, and the sums are those above p
+  pub record Down (bursts rates : ℕ) (found : Verdict) (p : ℕ) : Type 0 where
+    pub below : p ≤ tableIn words .count
+    pub bursts-are : bursts ≡ burstsAbove p (rowsIn words)
+    pub rates-are : rates ≡ ratesAbove p (rowsIn words)
+    pub found-is : found ≡ eachPlace check p (drop p (requestorsOf (tableIn words)))
+
+  pub down-none : (bursts rates n : ℕ) → n ≡ tableIn words .count → bursts ≡ burstsAbove n (rowsIn words) → rates ≡ ratesAbove n (rowsIn words) → Down bursts rates faultless n
+  down-none bursts rates n e b r = record {
+    below = omega arith;
+    bursts-are = b;
+    rates-are = r;
+    found-is = sym (each-end check (rowsIn words) (tableIn words .count) n (omega arith));
+  }
+
+  module _ (bursts rates : ℕ) (found : Verdict) (p : ℕ) (v : Down bursts rates found p) (some : 1 ≤ p) (few : tableIn words .count ≤ roomOf words) (there : wordCount p ≤ length words) where
+    bursts-less : bursts ≡ burstsAbove (p - 1) (rowsIn words) + rowIn words (p - 1) .burst
+    bursts-less = v .bursts-are ∙ sum-next words burst refl p some there
+
+    rates-less : rates ≡ ratesAbove (p - 1) (rowsIn words) + rowIn words (p - 1) .rate
+    rates-less = v .rates-are ∙ sum-next words rate refl p some there
+
+    pub burst-inside : rowIn words (p - 1) .burst ≤ bursts
+    burst-inside = omega (arith, bursts-less)
+
+    pub rate-inside : rowIn words (p - 1) .rate ≤ rates
+    rate-inside = omega (arith, rates-less)
+
+    pub bursts-next : bursts - rowIn words (p - 1) .burst ≡ burstsAbove (p - 1) (rowsIn words)
+    bursts-next = omega (arith, bursts-less)
+
+    pub rates-next : rates - rowIn words (p - 1) .rate ≡ ratesAbove (p - 1) (rowsIn words)
+    rates-next = omega (arith, rates-less)
+
+    pub down-more : (here : Verdict) → here ≡ check (p - 1) (rowIn words (p - 1)) → Down (bursts - rowIn words (p - 1) .burst) (rates - rowIn words (p - 1) .rate) (then here found) (p - 1)
+    unfolding eachPlace
+    down-more here e =
+        let rs = requestorsOf (tableIn words) in
+        let inside : p - 1 < length rs = omega (arith, length-take (tableIn words .count) (rowsIn words), rows-length words, v .below) in
+        let row : requestorAt (p - 1) rs ≡ rowIn words (p - 1) =
+        getD-take (tableIn words .count) (rowsIn words) (p - 1) noRequestor (omega (arith, v .below)) ∙ row-at words (p - 1) (omega (arith, v .below)) in
+        let next : suc (p - 1) ≡ p = omega arith in
+        let found-next : found ≡ eachPlace check (suc (p - 1)) (drop (suc (p - 1)) rs) = rw next (v .found-is) in
+        record {
+          below = omega (arith, v .below);
+          bursts-are = bursts-next;
+          rates-are = rates-next;
+          found-is = rw (drop-cons rs (p - 1) noRequestor inside, row, e, found-next);
+        }
+
+  pub down-end : (bursts rates : ℕ) (found : Verdict) (p : ℕ) → Down bursts rates found p → p ≤ 0 → found ≡ finishesVerdict (tableIn words)
+  down-end bursts rates found p v none =
+      let zero-th : p ≡ 0 = omega arith in
+      v .found-is ∙ ap (λ q. eachPlace check q (drop q (requestorsOf (tableIn words)))) zero-th
+
+-- ---- the rows past place N−1
+
+-- those from place p on are clear exactly if all of them are
+abbrev pub Cleared : List ℕ → (p : ℕ) → Type 0
+Cleared words p = every requestorClear (drop (tableIn words .count) (rowsIn words)) ≡ every requestorClear (drop p (rowsIn words))
+
+module _ (words : List ℕ) (p : ℕ) (w : Cleared words p) where
+  module _ (h : p < roomOf words) {clear : Bool} (e : clear ≡ requestorClear (rowIn words p)) where
+    row-clear : requestorClear (requestorAt p (rowsIn words)) ≡ clear
+    row-clear = ap requestorClear (row-at words p h) ∙ sym e
+
+    there : p < length (rowsIn words)
+    there = omega (arith, rows-length words)
+
+    pub tail-pass : clear ≡ true → Cleared words (p + 1)
+    tail-pass on = w ∙ every-pass requestorClear noRequestor (rowsIn words) p there (row-clear ∙ on)
+
+    pub tail-stop : clear ≡ false → fault (refusal 2) ≡ tailVerdict (tableIn words)
+    unfolding tailVerdict gate
+    tail-stop off = rw (w ∙ every-stop requestorClear noRequestor (rowsIn words) p there (row-clear ∙ off))
+
+  pub tail-end : roomOf words ≤ p → faultless ≡ tailVerdict (tableIn words)
+  unfolding tailVerdict gate
+  tail-end past = rw (w ∙ every-end requestorClear noRequestor (rowsIn words) p (omega (arith, rows-length words)))
+
+-- ---- the ways out of checks 1 to 6
+
+module _ (limit : ℕ) (t : Table) where
+  pub limits-fault : {r : Refusal} → limitsVerdict limit t ≡ fault r → fault r ≡ tableVerdict limit t
+  unfolding tableVerdict
+  limits-fault e = sym (two-fault _ _ _ _ e)
+
+  module _ (e : limitsVerdict limit t ≡ faultless) where
+    pub limits-count : t .count ≤ limit
+    limits-count = held-open (countBounds limit) _ (then-open _ _ e .1) .1
+
+    past-limits : tableVerdict limit t ≡ then (tailVerdict t) (then (rowsVerdict t) (rateSumVerdict t))
+    unfolding tableVerdict then
+    past-limits =
+        let a = then-open (heldTo denominatorBounds (t .denominator)) (heldTo (countBounds limit) (t .count)) e in
+        rw (a .0, a .1)
+
+    pub rows-fault : {r : Refusal} → then (tailVerdict t) (rowsVerdict t) ≡ fault r → fault r ≡ tableVerdict limit t
+    rows-fault f = sym (past-limits ∙ two-fault (tailVerdict t) (rowsVerdict t) (rateSumVerdict t) _ f)
+
+    module _ (f : then (tailVerdict t) (rowsVerdict t) ≡ faultless) where
+      pub rows-pass : tableVerdict limit t ≡ rateSumVerdict t
+      unfolding then
+      rows-pass = let a = then-open (tailVerdict t) (rowsVerdict t) f in past-limits ∙ rw (a .0, a .1)
+
+      -- so that the rates can be added up
+      pub sum-most : total rate (requestorsOf t) ≤ limit * maxDenominator
+      sum-most =
+          let few : length (requestorsOf t) ≤ limit = omega (arith, length-take (t .count) (t .requestors), limits-count) in
+          let most = mul-le-mul few (held-open denominatorBounds _ (then-open _ _ e .0) .1) in
+          omega (arith, rates-fit (t .denominator) (requestorsOf t) (then-open _ _ f .1), most)

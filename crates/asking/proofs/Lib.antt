@@ -1,0 +1,2 @@
+-- The laws of questions about words.
+pub mod Asked

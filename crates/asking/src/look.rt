@@ -1,0 +1,51 @@
+// A look into a state: the account of a place, and where the line stands.
+use crate::place::check_place;
+use arbiter::refusals::Cause;
+use arbiter::refusals::StateRefusal;
+use arbiter::refusals::Verdict;
+use arbiter::state::Account;
+use arbiter::units::Slots;
+use layout::words::account;
+use layout::words::count;
+use layout::words::slot_number;
+use soundness::soundness::is_sound;
+ghost use mathlib.Core.Path.{_≡_};
+ghost use mathlib.Core.Bool.{true};
+ghost use Rattle.arbiter.specs.Limits.{maxPlaces};
+ghost use Rattle.layout.specs.Words.{roomOf, rightLength, stateOf};
+ghost use Rattle.asking.specs.Look.{accountAsked, standing, accountAnswerOf, standingAnswerOf};
+
+// The credit and the backlog of a place.
+pub enum AccountAnswer {
+    Told(Account),
+    Refused(Cause),
+}
+
+// The slot number, and N: the slot that comes next, and how many places there are to ask about.
+pub enum StandingAnswer {
+    Stands(Slots, usize),
+    Refused(Cause),
+}
+
+// Refused: 23, 11.
+pub fn account_words(words: &[u64], place: usize) -> AccountAnswer
+    requires { ⌜ rightLength maxPlaces (now words) ≡ true ⌝ }
+    ensures { λ a. ⌜ accountAnswerOf a ≡ accountAsked (roomOf (now (words .entry))) (stateOf (now (words .entry))) place ⌝ }
+{
+    let there = check_place(words, place);
+    match there {
+        Verdict::Fault(c) => AccountAnswer::Refused(c),
+        Verdict::Faultless => AccountAnswer::Told(account(words, place)),
+    }
+}
+
+// Refused: 23.
+pub fn standing_words(words: &[u64]) -> StandingAnswer
+    requires { ⌜ rightLength maxPlaces (now words) ≡ true ⌝ }
+    ensures { λ a. ⌜ standingAnswerOf a ≡ standing (roomOf (now (words .entry))) (stateOf (now (words .entry))) ⌝ }
+{
+    if !is_sound(words) {
+        return StandingAnswer::Refused(Cause::State(StateRefusal::Unsound));
+    }
+    StandingAnswer::Stands(slot_number(words), count(words))
+}

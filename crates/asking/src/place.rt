@@ -1,0 +1,27 @@
+// What every question about a place is checked for first.
+use arbiter::refusals::Cause;
+use arbiter::refusals::InputRefusal;
+use arbiter::refusals::StateRefusal;
+use arbiter::refusals::Verdict;
+use layout::words::count;
+use soundness::soundness::is_sound;
+ghost use mathlib.Core.Path.{_≡_};
+ghost use mathlib.Core.Bool.{true};
+ghost use Rattle.arbiter.specs.Limits.{maxPlaces};
+ghost use Rattle.arbiter.specs.Refusals.{verdictOf};
+ghost use Rattle.arbiter.specs.State.{placeVerdict};
+ghost use Rattle.layout.specs.Words.{roomOf, rightLength, stateOf};
+
+// 23, then 11: N is a number of places only once the words are known to be a state's.
+pub(crate) fn check_place(words: &[u64], place: usize) -> Verdict
+    requires { ⌜ rightLength maxPlaces (now words) ≡ true ⌝ }
+    ensures { λ v. ⌜ verdictOf v ≡ placeVerdict (roomOf (now (words .entry))) (stateOf (now (words .entry))) place ⌝ }
+{
+    if !is_sound(words) {
+        return Verdict::Fault(Cause::State(StateRefusal::Unsound));
+    }
+    if count(words) <= place {
+        return Verdict::Fault(Cause::Input(InputRefusal::NoSuchPlace));
+    }
+    Verdict::Faultless
+}

@@ -1,0 +1,143 @@
+-- A question about lent words: turned down by a length, or answered of the state that the words are. Assumes nothing.
+use mathlib.Core.Path.{_≡_, refl, ap, sym, _∙_}
+use mathlib.Core.Bool.{Bool, true, false, _&&_}
+use mathlib.Core.List.{List, [], _∷_}
+use Prim.Native.Nat.{ℕ}
+use native.Mathlib.Omega.{arith}
+use borrow.Author.Tests.{eqb-true}
+use lib.Dec.{eqb}
+use lib.IntN.{ℤ}
+use lib.ListN.{length, set}
+use Rattle.lists.specs.Choices.{pick}
+use Rattle.arbiter.specs.declared.refusals.Refusal.{Refusal}
+use Rattle.arbiter.specs.declared.state.Account.{Account}
+use Rattle.arbiter.specs.declared.state.Arbiter.{Arbiter}
+use Rattle.arbiter.specs.Refusals.{refusal}
+use Rattle.arbiter.specs.State.{sound}
+use Rattle.arbiter.specs.Asked as asked
+use Rattle.leads.specs.Lead as leads
+use Rattle.table_bytes.specs.Writing as writing
+use Rattle.layout.specs.Words.{roomOf, rightLength, stateOf}
+use Rattle.asking.specs.Look as look
+use Rattle.outcomes.specs.Outcomes.{refusalCode, wrongLength}
+use Rattle.outcomes.specs.Places.{Below}
+use Rattle.outcomes.proofs.Numbering.{below-more}
+use Rattle.outcomes.proofs.Places.{figures-name-below, leads-name-below, write-names-below, looks-name-below, standings-name-below}
+use Rattle.justrave.specs.Exported.{Figured, figuresTold, figured, lookTold, accountTold, stands, standingTold, Led, leadTold, led, Wrote, writeWords, writeCode, writeTold, wrote}
+use Rattle.justrave.proofs.Lengths.{lent-room, lent-beside, lent-shut, lent-open}
+
+-- an answer of one number
+pub one-put : {A : Type 0} (old : List A) (x : A) → length old ≡ 1 → set old 0 x ≡ x ∷ []
+one-put [] x h = absurd (omega arith)
+one-put (a ∷ []) x h = refl
+one-put (a ∷ b ∷ old) x h = absurd (omega arith)
+
+module _ (most : ℕ) (words : List ℕ) where
+  abbrev room : ℕ
+  room = roomOf words
+
+  abbrev s : Arbiter
+  s = stateOf words
+
+  -- the lent answer has its length
+  pub beside : {A : Type 0} (old : List A) (n : ℕ) (hold : Bool) → hold ≡ (rightLength most words && eqb (length old) n) → hold ≡ true → length old ≡ n
+  beside old n hold e z = eqb-true (length old) n (lent-beside most words (eqb (length old) n) hold e z)
+
+  -- ---- answers of two words
+
+  module _ (old : List ℕ) (hold : Bool) (e : hold ≡ (rightLength most words && eqb (length old) 2)) where
+    abbrev down : Figured
+    down = record { answer = old; outcome = wrongLength }
+
+    below : hold ≡ true → (r : Refusal) → Below room (r .place) → Below most (r .place)
+    below z r b = below-more room most (r .place) (lent-room most words (eqb (length old) 2) hold e z) b
+
+    module _ (p j : ℕ) where
+      pub figures-shut : hold ≡ false → down ≡ figured most words p j old
+      unfolding figured
+      figures-shut z = lent-shut most words (eqb (length old) 2) hold e down (λ limit s. figuresTold old (asked.figures limit s p j)) z
+
+      module _ (z : hold ≡ true) (d : asked.FiguresAnswer) (f : d ≡ asked.figures room s p j) where
+        pub figures-told : (x : Figured) → x ≡ figuresTold old d → x ≡ figured most words p j old
+        unfolding figured
+        figures-told x g = lent-open most words (eqb (length old) 2) hold e down (λ limit s. figuresTold old (asked.figures limit s p j)) z x (g ∙ ap (figuresTold old) f)
+
+        pub figures-below : (r : Refusal) → d ≡ asked.refused r → Below most (r .place)
+        figures-below r h = below z r (figures-name-below room s p j r (sym f ∙ h) .place)
+
+    module _ (p : ℕ) where
+      pub account-shut : hold ≡ false → down ≡ accountTold most words p old
+      unfolding accountTold
+      account-shut z = lent-shut most words (eqb (length old) 2) hold e down (λ limit s. lookTold old (look.accountAsked limit s p)) z
+
+      module _ (z : hold ≡ true) (d : look.Told Account) (f : d ≡ look.accountAsked room s p) where
+        pub account-told : (x : Figured) → x ≡ lookTold old d → x ≡ accountTold most words p old
+        unfolding accountTold
+        account-told x g = lent-open most words (eqb (length old) 2) hold e down (λ limit s. lookTold old (look.accountAsked limit s p)) z x (g ∙ ap (lookTold old) f)
+
+        pub account-below : (r : Refusal) → d ≡ look.refused r → Below most (r .place)
+        account-below r h = below z r (looks-name-below room s p r (sym f ∙ h) .place)
+
+    pub standing-shut : hold ≡ false → down ≡ standingTold most words old
+    unfolding standingTold
+    standing-shut z = lent-shut most words (eqb (length old) 2) hold e down (λ limit s. stands old (look.standing limit s)) z
+
+    module _ (z : hold ≡ true) (d : look.Told look.Standing) (f : d ≡ look.standing room s) where
+      pub standing-told : (x : Figured) → x ≡ stands old d → x ≡ standingTold most words old
+      unfolding standingTold
+      standing-told x g = lent-open most words (eqb (length old) 2) hold e down (λ limit s. stands old (look.standing limit s)) z x (g ∙ ap (stands old) f)
+
+      pub standing-below : (r : Refusal) → d ≡ look.refused r → Below most (r .place)
+      standing-below r h = below z r (standings-name-below room s r (sym f ∙ h) .place)
+
+  -- ---- the lead
+
+  module _ (p : ℕ) (log : List ℕ) (old : List ℤ) (hold : Bool) (e : hold ≡ (rightLength most words && eqb (length old) 1)) where
+    abbrev lead-down : Led
+    lead-down = record { answer = old; outcome = wrongLength }
+
+    pub lead-shut : hold ≡ false → lead-down ≡ led most words p log old
+    unfolding led
+    lead-shut z = lent-shut most words (eqb (length old) 1) hold e lead-down (λ limit s. leadTold old (leads.leadAsked limit s p log)) z
+
+    module _ (z : hold ≡ true) (d : leads.LeadAnswer) (f : d ≡ leads.leadAsked room s p log) where
+      pub lead-told : (x : Led) → x ≡ leadTold old d → x ≡ led most words p log old
+      unfolding led
+      lead-told x g = lent-open most words (eqb (length old) 1) hold e lead-down (λ limit s. leadTold old (leads.leadAsked limit s p log)) z x (g ∙ ap (leadTold old) f)
+
+      pub lead-given : (x : ℤ) (after : List ℤ) → d ≡ leads.lead x → after ≡ x ∷ [] → _≡_ {A = Led} (record { answer = after; outcome = 0 }) (led most words p log old)
+      lead-given x after a b = lead-told _ (rw (a, b))
+
+      pub lead-below : (r : Refusal) → d ≡ leads.refused r → Below most (r .place)
+      lead-below r h = below-more room most (r .place) (lent-room most words (eqb (length old) 1) hold e z) (leads-name-below room s p log r (sym f ∙ h) .place)
+
+  -- ---- the table's bytes
+
+  module _ (buffer old : List ℕ) (hold : Bool) (e : hold ≡ (rightLength most words && eqb (length old) 1)) where
+    abbrev write-down : Wrote
+    write-down = record { buffer = buffer; answer = old; outcome = wrongLength }
+
+    abbrev write-call : ℕ → Arbiter → Wrote
+    write-call limit s = pick (sound limit s) (writeTold old (writing.writeTable limit (s .table) buffer)) (record { buffer = buffer; answer = old; outcome = refusalCode (refusal 23) })
+
+    pub write-shut : hold ≡ false → write-down ≡ wrote most words buffer old
+    unfolding wrote
+    write-shut z = lent-shut most words (eqb (length old) 1) hold e write-down write-call z
+
+    module _ (z : hold ≡ true) where
+      pub write-23 : sound room s ≡ false → (o : ℕ) → o ≡ refusalCode (refusal 23) → _≡_ {A = Wrote} (record { buffer = buffer; answer = old; outcome = o }) (wrote most words buffer old)
+      unfolding wrote
+      write-23 u o b = lent-open most words (eqb (length old) 1) hold e write-down write-call z _ (rw (u, b))
+
+      module _ (u : sound room s ≡ true) (d : writing.TableWritten) (f : d ≡ writing.writeTable room (s .table) buffer) where
+        pub write-told : (answer : List ℕ) (o : ℕ) → answer ≡ writeWords old (d .answer) → o ≡ writeCode (d .answer)
+            → _≡_ {A = Wrote} (record { buffer = d .buffer; answer = answer; outcome = o }) (wrote most words buffer old)
+        unfolding wrote
+        write-told answer o a b =
+            let told : _≡_ {A = Wrote} (record { buffer = d .buffer; answer = answer; outcome = o }) (writeTold old d) = rw (a, b) in
+            lent-open most words (eqb (length old) 1) hold e write-down write-call z _ (told ∙ rw (u, f))
+
+        pub write-below : (r : Refusal) → d .answer ≡ writing.refused r → Below most (r .place)
+        write-below r h =
+            below-more room most (r .place) (lent-room most words (eqb (length old) 1) hold e z)
+            (write-names-below room (s .table) buffer r (ap (λ x. x .answer) (sym f) ∙ h) .place)

@@ -1,0 +1,19 @@
+use mathlib.Core.Path.{sym, _∙_}
+use borrow.Author.Needs.{needs}
+use Rattle.justrave.proofs.lent.lengths_hold.Statement.{statement}
+use Rattle.justrave.proofs.lent.lengths_hold.Tie as tie
+use Rattle.justrave.proofs.lent.lengths_hold.Reads as reads
+use Rattle.justrave.proofs.lent.lengths_hold.Lts as lts
+use Rattle.layout.proofs.words.length_is_right.Reads as length-is-right-reads
+
+length-is-right-requires : tie.Need-length-is-right-requires
+length-is-right-requires c κs = search needs
+
+returns : tie.Need-returns
+returns c = rw (sym (c .before .length-is-right .ensures) ∙ c .if1 .taken)
+
+returns-2 : tie.Need-returns-2
+returns-2 c = rw (sym (c .before .length-is-right .ensures) ∙ c .if1 .left)
+
+pub lengths-hold-spec : {M : Type 1} → statement M
+lengths-hold-spec = tie.close (tie.spec length-is-right-requires returns returns-2)

@@ -1,0 +1,21 @@
+use Rattle.justrave.proofs.Lengths.{two-put}
+use borrow.Author.Needs.{needs}
+use Rattle.justrave.proofs.lent.put_two.Statement.{statement}
+use Rattle.justrave.proofs.lent.put_two.Tie as tie
+use Rattle.justrave.proofs.lent.put_two.Reads as reads
+use Rattle.justrave.proofs.lent.put_two.Lts as lts
+
+slice-write-answer : tie.Need-slice-write-answer
+slice-write-answer c = search needs
+
+slice-write-answer-2 : tie.Need-slice-write-answer-2
+slice-write-answer-2 c = search needs
+
+same-length : tie.Need-same-length
+same-length c = search needs
+
+returns : tie.Need-returns
+returns c = two-put (c .args .answer .now) (c .args .x) (c .args .y) (c .pre)
+
+pub put-two-spec : {M : Type 1} → statement M
+put-two-spec = tie.close (tie.spec slice-write-answer slice-write-answer-2 same-length returns)

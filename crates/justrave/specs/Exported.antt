@@ -1,0 +1,174 @@
+-- What each call for firmware does to the memory that is lent to it, and its outcome, one number. The calls are those of document 01 on
+-- the state that the words are; how many places the words have room for is the `limit` of each. `most` is the largest N. Words of any
+-- length but that of 1 to `most` places, a lent answer or lent numbers of a wrong length are 255, ahead of all else. What is said of
+-- memory is said of it at exit; that lent memory does not overlap is the caller's part, in Rattle and Rust by its types.
+use mathlib.Core.Bool.{Bool, true, _&&_}
+use mathlib.Core.List.{List, [], _∷_}
+use Prim.Native.Nat.{ℕ, _+_}
+use lib.Dec.{eqb}
+use lib.IntN.{ℤ}
+use lib.ListN.{length}
+use Rattle.lists.specs.Choices.{pick, inRange}
+use Rattle.lists.specs.Runs.{Result}
+use Rattle.arbiter.specs.declared.state.Account.{Account}
+use Rattle.arbiter.specs.declared.state.Arbiter.{Arbiter}
+use Rattle.arbiter.specs.Refusals.{refusal}
+use Rattle.arbiter.specs.Answers.{Answer, accepted, granted, idle, refused}
+use Rattle.arbiter.specs.State.{credit, backlog, sound}
+use Rattle.arbiter.specs.Start.{start}
+use Rattle.arbiter.specs.Asked as asked
+use Rattle.leads.specs.Lead as leads
+use Rattle.table_bytes.specs.Reading.{readTable}
+use Rattle.table_bytes.specs.Writing as writing
+use Rattle.calls.specs.Calls.{post, slot, called}
+use Rattle.run.specs.Log.{Outcome, run}
+use Rattle.layout.specs.Words.{wordCount, roomOf, rightLength, stateWords, stateOf}
+use Rattle.layout.specs.Numbers.{numbersTable, rightNumbers}
+use Rattle.starts.specs.Starts.{begun}
+use Rattle.asking.specs.Look as look
+use Rattle.outcomes.specs.Outcomes.{refusalCode, answerCode, wrongLength}
+
+-- the words of a state with room for so many places, 1 to `most`; 0 where no state has that room
+abbrev pub sizeOf : (most places : ℕ) → ℕ
+sizeOf most places = pick (inRange 1 most places) (wordCount places) 0
+
+-- A call on the state that the words are, with their room for its limit; or what comes of a wrong length of the words or of what is lent
+-- beside them.
+unfoldable pub onState : {X : Type 0} → (most : ℕ) → (words : List ℕ) → (beside : Bool) → (turned-down : X) → ((limit : ℕ) → Arbiter → X) → X
+onState most words beside turned-down call = pick (rightLength most words && beside) (call (roomOf words) (stateOf words)) turned-down
+
+-- ---- the calls that change the state. A refused call hands back its state, so that its words are the same words (layout, RoundTrip).
+
+pub record Stated : Type 0 where
+  pub words : List ℕ
+  pub outcome : ℕ
+
+abbrev pub stated : Result Arbiter Answer → Stated
+stated r = record { words = stateWords (r .state); outcome = answerCode (r .answer) }
+
+unfoldable pub posted : (most : ℕ) → (words : List ℕ) → (place count : ℕ) → Stated
+posted most words p count =
+    onState most words true (record { words = words; outcome = wrongLength })
+    λ limit s. stated (called limit s (post p count))
+
+pub record Slotted : Type 0 where
+  pub words : List ℕ
+  pub answer : List ℕ
+  pub outcome : ℕ
+
+-- the stamp, and the place granted + 1 or 0 for idle; a refused slot leaves the lent answer as it was
+abbrev pub slotWords : (old : List ℕ) → Answer → List ℕ
+slotWords old (granted stamp p) = stamp ∷ (p + 1) ∷ []
+slotWords old (idle stamp) = stamp ∷ 0 ∷ []
+slotWords old accepted = old
+slotWords old (refused r) = old
+
+abbrev pub slotStated : (old : List ℕ) → Result Arbiter Answer → Slotted
+slotStated old r = record { words = stateWords (r .state); answer = slotWords old (r .answer); outcome = answerCode (r .answer) }
+
+unfoldable pub slotted : (most : ℕ) → (words old : List ℕ) → Slotted
+slotted most words old =
+    onState most words (eqb (length old) 2) (record { words = words; answer = old; outcome = wrongLength })
+    λ limit s. slotStated old (called limit s slot)
+
+pub record Ran : Type 0 where
+  pub words : List ℕ
+  pub log : List ℕ
+  pub outcome : ℕ
+
+abbrev pub runStated : Outcome → Ran
+runStated r = record { words = stateWords (r .state); log = r .log; outcome = answerCode (r .answer) }
+
+unfoldable pub ran : (most : ℕ) → (words log : List ℕ) → Ran
+ran most words log =
+    onState most words true (record { words = words; log = log; outcome = wrongLength })
+    λ limit s. runStated (run limit s log)
+
+-- ---- the calls that make a state. What the words held before does not matter; refused, they are those of the state whose every field is 0.
+
+-- what a start leaves in the lent words, or what comes of a wrong length
+unfoldable pub leaves : (lengths : Bool) → (words : List ℕ) → Result Arbiter Answer → Stated
+leaves lengths words made = pick lengths (stated made) (record { words = words; outcome = wrongLength })
+
+-- from a table's bytes
+unfoldable pub started : (most : ℕ) → (bytes : List ℕ) → (first : ℕ) → (words : List ℕ) → Stated
+started most bytes first words = leaves (rightLength most words) words (begun (roomOf words) (readTable (roomOf words) bytes) first)
+
+-- from a table given as numbers
+unfoldable pub startedOf : (most : ℕ) → (numbers : List ℕ) → (first : ℕ) → (words : List ℕ) → Stated
+startedOf most numbers first words =
+    leaves (rightLength most words && rightNumbers (roomOf words) numbers) words (start (roomOf words) (numbersTable (roomOf words) numbers) first)
+
+-- ---- the calls that ask: the state stays as it is, and a refused one leaves the lent answer as it was
+
+pub record Figured : Type 0 where
+  pub answer : List ℕ
+  pub outcome : ℕ
+
+-- the reported wait, and the finish figure
+abbrev pub figuresTold : (old : List ℕ) → asked.FiguresAnswer → Figured
+figuresTold old (asked.figured wait finish) = record { answer = wait ∷ finish ∷ []; outcome = 0 }
+figuresTold old (asked.refused r) = record { answer = old; outcome = refusalCode r }
+
+unfoldable pub figured : (most : ℕ) → (words : List ℕ) → (place j : ℕ) → (old : List ℕ) → Figured
+figured most words p j old =
+    onState most words (eqb (length old) 2) (record { answer = old; outcome = wrongLength })
+    λ limit s. figuresTold old (asked.figures limit s p j)
+
+-- the credit and the backlog of a place
+abbrev pub lookTold : (old : List ℕ) → look.Told Account → Figured
+lookTold old (look.told a) = record { answer = credit a ∷ backlog a ∷ []; outcome = 0 }
+lookTold old (look.refused r) = record { answer = old; outcome = refusalCode r }
+
+unfoldable pub accountTold : (most : ℕ) → (words : List ℕ) → (place : ℕ) → (old : List ℕ) → Figured
+accountTold most words p old =
+    onState most words (eqb (length old) 2) (record { answer = old; outcome = wrongLength })
+    λ limit s. lookTold old (look.accountAsked limit s p)
+
+-- the slot number and N
+abbrev pub stands : (old : List ℕ) → look.Told look.Standing → Figured
+stands old (look.told x) = record { answer = x .slot ∷ x .count ∷ []; outcome = 0 }
+stands old (look.refused r) = record { answer = old; outcome = refusalCode r }
+
+unfoldable pub standingTold : (most : ℕ) → (words old : List ℕ) → Figured
+standingTold most words old =
+    onState most words (eqb (length old) 2) (record { answer = old; outcome = wrongLength })
+    λ limit s. stands old (look.standing limit s)
+
+pub record Led : Type 0 where
+  pub answer : List ℤ
+  pub outcome : ℕ
+
+abbrev pub leadTold : (old : List ℤ) → leads.LeadAnswer → Led
+leadTold old (leads.lead x) = record { answer = x ∷ []; outcome = 0 }
+leadTold old (leads.refused r) = record { answer = old; outcome = refusalCode r }
+
+unfoldable pub led : (most : ℕ) → (words : List ℕ) → (place : ℕ) → (log : List ℕ) → (old : List ℤ) → Led
+led most words p log old =
+    onState most words (eqb (length old) 1) (record { answer = old; outcome = wrongLength })
+    λ limit s. leadTold old (leads.leadAsked limit s p log)
+
+pub record Wrote : Type 0 where
+  pub buffer : List ℕ
+  pub answer : List ℕ
+  pub outcome : ℕ
+
+-- how many bytes were written
+abbrev pub writeWords : (old : List ℕ) → writing.WriteAnswer → List ℕ
+writeWords old (writing.wrote bytes) = bytes ∷ []
+writeWords old (writing.refused r) = old
+
+abbrev pub writeCode : writing.WriteAnswer → ℕ
+writeCode (writing.wrote bytes) = 0
+writeCode (writing.refused r) = refusalCode r
+
+abbrev pub writeTold : (old : List ℕ) → writing.TableWritten → Wrote
+writeTold old w = record { buffer = w .buffer; answer = writeWords old (w .answer); outcome = writeCode (w .answer) }
+
+-- the table of the state, and ahead of the writer's own checks test 23, as in every call on a state
+unfoldable pub wrote : (most : ℕ) → (words buffer old : List ℕ) → Wrote
+wrote most words buffer old =
+    onState most words (eqb (length old) 1) (record { buffer = buffer; answer = old; outcome = wrongLength })
+    λ limit s. pick (sound limit s)
+    (writeTold old (writing.writeTable limit (s .table) buffer))
+    (record { buffer = buffer; answer = old; outcome = refusalCode (refusal 23) })

@@ -1,0 +1,2 @@
+-- What each call for firmware in C or Rust does with lent memory. The words themselves: layout. What holds of the calls together: on_words.
+pub mod Exported

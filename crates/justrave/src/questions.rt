@@ -1,0 +1,118 @@
+// The exported calls that ask about a state and leave it as it is: figures, lead, the table's bytes, an account, and where the line stands.
+use crate::lent::lengths_hold;
+use crate::lent::put_two;
+use arbiter::asked::FiguresAnswer;
+use arbiter::refusals::Cause;
+use arbiter::refusals::StateRefusal;
+use arbiter::units::Transfers;
+use asking::figures::figures_words;
+use asking::lead::lead_words;
+use asking::look::AccountAnswer;
+use asking::look::StandingAnswer;
+use asking::look::account_words;
+use asking::look::standing_words;
+use asking::write::write_words;
+use leads::LeadAnswer;
+use outcomes::codes::WRONG_LENGTH;
+use outcomes::codes::refusal_code;
+use soundness::soundness::is_sound;
+use table_bytes::writer::WriteAnswer;
+ghost use mathlib.Core.Path.{_≡_};
+ghost use Rattle.arbiter.specs.Limits.{maxPlaces};
+ghost use Rattle.justrave.specs.Exported.{figured, led, wrote, accountTold, standingTold};
+
+// The answer is the reported wait and the finish figure for j transfers. Refused: 255, 23, 11, 5.
+#[no_mangle]
+pub extern "C" fn justrave_figures(state: &[u64], place: usize, j: u64, answer: &mut [u64]) -> u64
+    ensures { λ r. ⌜ record { answer = now (answer .exit); outcome = r } ≡ figured maxPlaces (now (state .entry)) place j (now (answer .entry)) ⌝ }
+{
+    if !lengths_hold(state, answer.len() == 2) {
+        return WRONG_LENGTH;
+    }
+    let told = figures_words(state, place, Transfers(j));
+    match told {
+        FiguresAnswer::Figures(f) => {
+            let wait = f.wait;
+            let finish = f.finish;
+            put_two(wait.0, finish.0, answer);
+            0
+        }
+        FiguresAnswer::Refused(c) => refusal_code(c),
+    }
+}
+
+// The answer is the lead of the place over the log. Refused: 255, 23, 11, 13.
+#[no_mangle]
+pub extern "C" fn justrave_lead(state: &[u64], place: usize, log: &[u8], answer: &mut [i64]) -> u64
+    ensures { λ r. ⌜ record { answer = now (answer .exit); outcome = r } ≡ led maxPlaces (now (state .entry)) place (now (log .entry)) (now (answer .entry)) ⌝ }
+{
+    if !lengths_hold(state, answer.len() == 1) {
+        return WRONG_LENGTH;
+    }
+    let told = lead_words(state, place, log);
+    match told {
+        LeadAnswer::Lead(x) => {
+            answer[0] = x;
+            0
+        }
+        LeadAnswer::Refused(c) => refusal_code(c),
+    }
+}
+
+// The table's bytes into the buffer; the answer is how many. Refused: 255, 23, then the writer's, 7 and 14.
+#[no_mangle]
+pub extern "C" fn justrave_write(state: &[u64], buffer: &mut [u8], answer: &mut [u64]) -> u64
+    ensures { λ r. ⌜ record { buffer = now (buffer .exit); answer = now (answer .exit); outcome = r } ≡ wrote maxPlaces (now (state .entry)) (now (buffer .entry)) (now (answer .entry)) ⌝ }
+{
+    if !lengths_hold(state, answer.len() == 1) {
+        return WRONG_LENGTH;
+    }
+    if !is_sound(state) {
+        return refusal_code(Cause::State(StateRefusal::Unsound));
+    }
+    let told = write_words(state, buffer);
+    match told {
+        WriteAnswer::Wrote(bytes) => {
+            answer[0] = bytes as u64;
+            0
+        }
+        WriteAnswer::Refused(c) => refusal_code(c),
+    }
+}
+
+// The answer is the credit and the backlog of the place. Refused: 255, 23, 11.
+#[no_mangle]
+pub extern "C" fn justrave_account(state: &[u64], place: usize, answer: &mut [u64]) -> u64
+    ensures { λ r. ⌜ record { answer = now (answer .exit); outcome = r } ≡ accountTold maxPlaces (now (state .entry)) place (now (answer .entry)) ⌝ }
+{
+    if !lengths_hold(state, answer.len() == 2) {
+        return WRONG_LENGTH;
+    }
+    let told = account_words(state, place);
+    match told {
+        AccountAnswer::Told(a) => {
+            let q = a.backlog;
+            put_two(a.credit, q.0, answer);
+            0
+        }
+        AccountAnswer::Refused(c) => refusal_code(c),
+    }
+}
+
+// The answer is the slot number and N. Refused: 255, 23.
+#[no_mangle]
+pub extern "C" fn justrave_standing(state: &[u64], answer: &mut [u64]) -> u64
+    ensures { λ r. ⌜ record { answer = now (answer .exit); outcome = r } ≡ standingTold maxPlaces (now (state .entry)) (now (answer .entry)) ⌝ }
+{
+    if !lengths_hold(state, answer.len() == 2) {
+        return WRONG_LENGTH;
+    }
+    let told = standing_words(state);
+    match told {
+        StandingAnswer::Stands(at, n) => {
+            put_two(at.0, n as u64, answer);
+            0
+        }
+        StandingAnswer::Refused(c) => refusal_code(c),
+    }
+}

@@ -1,0 +1,48 @@
+// The exported calls that make a state: a start from a table's bytes, and one from a table given as numbers. Refused, every word is 0: 255
+// alone leaves them as they were.
+use crate::lent::lengths_hold;
+use arbiter::start::StartAnswer;
+use arbiter::units::Slots;
+use layout::numbers::numbers_are_right;
+use layout::words::room_of;
+use outcomes::codes::WRONG_LENGTH;
+use outcomes::codes::refusal_code;
+use starts::bytes::start_bytes;
+use starts::numbers::start_numbers;
+ghost use mathlib.Core.Path.{_≡_};
+ghost use Rattle.arbiter.specs.Limits.{maxPlaces};
+ghost use Rattle.justrave.specs.Exported.{started, startedOf};
+
+// The state of a table's bytes and a first slot number. Refused: 255; 8, 9 and 1 to 5 number by number; 10, 6, 7, 12.
+#[no_mangle]
+pub extern "C" fn justrave_start(table: &[u8], first: u64, state: &mut [u64]) -> u64
+    ensures { λ r. ⌜ record { words = now (state .exit); outcome = r } ≡ started maxPlaces (now (table .entry)) first (now (state .entry)) ⌝ }
+{
+    if !lengths_hold(state, true) {
+        return WRONG_LENGTH;
+    }
+    let answer = start_bytes(table, Slots(first), state);
+    match answer {
+        StartAnswer::Started => 0,
+        StartAnswer::Refused(c) => refusal_code(c),
+    }
+}
+
+// The same for a table given as numbers, for as many places as the words have room. Refused: 255, 1 to 7, 12.
+#[no_mangle]
+pub extern "C" fn justrave_start_numbers(numbers: &[u32], first: u64, state: &mut [u64]) -> u64
+    ensures { λ r. ⌜ record { words = now (state .exit); outcome = r } ≡ startedOf maxPlaces (now (numbers .entry)) first (now (state .entry)) ⌝ }
+{
+    if !lengths_hold(state, true) {
+        return WRONG_LENGTH;
+    }
+    let room = room_of(state);
+    if !numbers_are_right(numbers, room) {
+        return WRONG_LENGTH;
+    }
+    let answer = start_numbers(numbers, Slots(first), state);
+    match answer {
+        StartAnswer::Started => 0,
+        StartAnswer::Refused(c) => refusal_code(c),
+    }
+}

@@ -1,0 +1,22 @@
+use native.Mathlib.Omega.{arith}
+use lib.ListN.{length-set}
+use borrow.Author.Needs.{needs}
+use Rattle.layout.proofs.words.put_head.Statement.{statement}
+use Rattle.layout.proofs.words.put_head.Tie as tie
+use Rattle.layout.proofs.words.put_head.Reads as reads
+use Rattle.layout.proofs.words.put_head.Lts as lts
+
+slice-write-words : tie.Need-slice-write-words
+slice-write-words c = search needs
+
+slice-write-words-2 : tie.Need-slice-write-words-2
+slice-write-words-2 c = simp length-set (omega arith)
+
+same-length : tie.Need-same-length
+same-length c = search needs
+
+returns : tie.Need-returns
+returns c = search needs
+
+pub put-head-spec : {M : Type 1} → statement M
+put-head-spec = tie.close (tie.spec slice-write-words slice-write-words-2 same-length returns)

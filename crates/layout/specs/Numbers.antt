@@ -1,0 +1,38 @@
+-- A table given as numbers: D, N, then rate, burst, need and within of each place that there is room for. Those past place N−1 are 0, or
+-- check 2 refuses the table.
+use mathlib.Core.Bool.{Bool}
+use mathlib.Core.List.{List, _∷_}
+use Prim.Native.Nat.{ℕ, _+_, _*_}
+use lib.Dec.{eqb}
+use lib.ListN.{length, getD}
+use Rattle.lists.specs.Sums.{joined}
+use Rattle.arbiter.specs.declared.table.Requestor.{Requestor}
+use Rattle.arbiter.specs.declared.table.Table.{Table}
+use Rattle.arbiter.specs.Table.{rowNumbers}
+use Rattle.layout.specs.Words.{rowFrom, placesFrom}
+
+-- where the numbers of place p begin
+abbrev pub rowStart : (p : ℕ) → ℕ
+rowStart p = 2 + 4 * p
+
+-- the numbers of a table with room for so many places
+abbrev pub numberCount : (room : ℕ) → ℕ
+numberCount room = rowStart room
+
+abbrev pub rightNumbers : (room : ℕ) → List ℕ → Bool
+rightNumbers room numbers = eqb (length numbers) (numberCount room)
+
+-- from a table to its numbers, all rows of its array
+unfoldable pub allNumbers : Table → List ℕ
+allNumbers t = t .denominator ∷ t .count ∷ joined rowNumbers (t .requestors)
+
+-- from numbers to the row of place p, and to the table
+abbrev pub numbersRow : List ℕ → (p : ℕ) → Requestor
+numbersRow numbers p = rowFrom numbers (rowStart p)
+
+unfoldable pub numbersTable : (room : ℕ) → List ℕ → Table
+numbersTable room numbers = record {
+  denominator = getD numbers 0 0;
+  count = getD numbers 1 0;
+  requestors = placesFrom (numbersRow numbers) 0 room;
+}

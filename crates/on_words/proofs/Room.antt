@@ -1,0 +1,133 @@
+-- Zeros behind words are clear rows and accounts behind the state that the words are, so that room makes no difference. Assumes nothing.
+use mathlib.Core.Path.{_≡_, refl, ap, sym, _∙_}
+use mathlib.Core.Bool.{Bool, true, _&&_}
+use mathlib.Core.List.{List, [], _∷_}
+use Prim.Native.Nat.{ℕ, zero, suc, _+_, _≤_}
+use native.Mathlib.Omega.{arith}
+use lib.Dec.{eqb}
+use lib.ListN.{length}
+use Rattle.lists.specs.Runs.{Result, end, answers}
+use Rattle.lists.proofs.Tests.{cases, and-true}
+use Rattle.arbiter.specs.declared.state.Arbiter.{Arbiter}
+use Rattle.arbiter.specs.Refusals.{Verdict, faultless, fault, refusal, resolve}
+use Rattle.arbiter.specs.Answers.{Answer, accepted, refused}
+use Rattle.arbiter.specs.State.{sound, Shaped}
+use Rattle.calls.specs.Calls.{Call, post, slot, grantOf, advanced, called}
+use Rattle.run.specs.Log.{Outcome, slotsState, slotsLog, runVerdict, run}
+use Rattle.layout.specs.Words.{stateWords, roomOf, rightLength, stateOf}
+use Rattle.layout.specs.Numbers.{rightNumbers, numbersTable}
+use Rattle.layout.proofs.RoundTrip.{right, words-shaped, state-written-back, words-read-back, length-state}
+use Rattle.layout.proofs.Stores.{same-room, right-stands}
+use Rattle.outcomes.specs.Outcomes.{refusalCode}
+use Rattle.justrave.specs.Exported.{onState, posted, slotted, ran, leaves, started, startedOf, Figured, figured, accountTold, standingTold, Led, led, Wrote, wrote}
+use Rattle.on_words.specs.Claims.{Lent, lentCall}
+use Rattle.on_words.specs.Room.{more, Unless-2, stated-more, slotted-more, ran-more, Alike, Any-room, Any-room-in-a-row}
+use Rattle.on_words.proofs.Claims.{slot-shaped, call-shaped, numbers-rows, start-shaped, start-of-numbers-shaped}
+use Rattle.on_words.proofs.Longer.{longer, longer-shaped, longer-words, few-places, same-sound, same-call, same-run, same-figures, same-look, same-standing, same-lead, same-write}
+use Rattle.on_words.proofs.LongerStart.{made-longer, same-start, same-begun, same-numbers, same-count}
+
+-- ---- the calls on words
+
+slots-shaped : (room k : ℕ) (s : Arbiter) → Shaped room s → Shaped room (slotsState k s)
+unfolding slotsState
+slots-shaped room zero s v = v
+slots-shaped room (suc k) s v = slots-shaped room k (advanced s (grantOf s)) (slot-shaped room s (grantOf s) v)
+
+run-shaped : (room : ℕ) (s : Arbiter) (log : List ℕ) → Shaped room s → Shaped room (run room s log .state)
+unfolding run
+run-shaped room s log v = by (runVerdict room s (length log))
+  where
+    by : (w : Verdict) → Shaped room (resolve {X = Outcome} w (record { state = slotsState (length log) s; answer = accepted; log = slotsLog (length log) s }) (λ r. record { state = s; answer = refused r; log = log }) .state)
+    by faultless = slots-shaped room (length log) s v
+    by (fault r) = v
+
+module _ (most extra : ℕ) (words : List ℕ) (long : rightLength most words ≡ true) (enough-room : roomOf words + extra ≤ most) where
+  abbrev room : ℕ
+  room = roomOf words
+
+  abbrev held : Arbiter
+  held = stateOf words
+
+  shape : Shaped room held
+  shape = words-shaped room words
+
+  more-words : more extra words ≡ stateWords (longer extra held)
+  more-words = ap (more extra) (sym (state-written-back most words long)) ∙ sym (longer-words room extra held shape)
+
+  read-more : (rightLength most (more extra words) ≡ true) × (roomOf (more extra words) ≡ room + extra) × (stateOf (more extra words) ≡ longer extra held)
+  read-more =
+      let back = words-read-back most (room + extra) (longer extra held) (longer-shaped room extra held shape) (omega (arith, right most words long .some)) enough-room in
+      rw more-words (back .0, back .1, rw (back .1) (back .2))
+
+  -- what f makes of both ends of a call on the words is what the call on the longer ones comes to
+  on-more : {X : Type 0} (f : X → X) (beside : Bool) (down shut : X) (call : ℕ → Arbiter → X) → shut ≡ f down
+      → call (room + extra) (longer extra held) ≡ f (call room held) → onState most (more extra words) beside shut call ≡ f (onState most words beside down call)
+  unfolding onState
+  on-more f beside down shut call a b =
+      rw (read-more .0, read-more .2, read-more .1, long) (cases beside (λ q. rw q b) (λ q. rw q a))
+
+  -- what a start leaves
+  on-leaves : (lengths wide : Bool) (made big : Result Arbiter Answer) → wide ≡ lengths → Shaped room (made .state)
+      → (lengths ≡ true → (made .answer ≡ refused (refusal 2) → ⊥) → big ≡ made-longer room extra made) → Unless-2 extra (leaves lengths words made) (leaves wide (more extra words) big)
+  unfolding leaves refusalCode
+  on-leaves lengths wide made big e v same = rw e (cases lengths
+      (λ q. rw q (λ h. rw (same q (λ f. h (rw f)), longer-words room extra (made .state) v)))
+      (λ q. rw q (λ h. refl)))
+
+  all-alike : Alike most extra words
+  unfolding started startedOf posted slotted ran figured accountTold standingTold led wrote
+  all-alike = record {
+    post = λ p count. on-more (stated-more extra) true _ _ _ refl
+        (rw (same-call room extra held shape (post p count), longer-words room extra (called room held (post p count) .state) (call-shaped room held (post p count) shape)));
+    slot = λ old. on-more (slotted-more extra) (eqb (length old) 2) _ _ _ refl
+        (rw (same-call room extra held shape slot, longer-words room extra (called room held slot .state) (call-shaped room held slot shape)));
+    run = λ log. on-more (ran-more extra) true _ _ _ refl
+        (rw (same-run room extra held shape log, longer-words room extra (run room held log .state) (run-shaped room held log shape)));
+    start = λ bytes first. rw (read-more .1, read-more .0) (on-leaves (rightLength most words) true _ _ (sym long) (start-shaped room bytes first) (λ q. same-begun room extra bytes first));
+    numbers = λ numbers first. rw (read-more .1, read-more .0, same-count room extra numbers) (on-leaves (rightLength most words && rightNumbers room numbers) (rightNumbers room numbers) _ _ (rw long) (start-of-numbers-shaped room numbers first)
+        (λ q h. rw (same-numbers room extra numbers (and-true (rightLength most words) _ q .1)) (same-start room extra (numbersTable room numbers) (numbers-rows room numbers) first h)));
+    figures = λ p j old. on-more (λ (x : Figured). x) (eqb (length old) 2) _ _ _ refl (rw (same-figures room extra held shape p j));
+    account = λ p old. on-more (λ (x : Figured). x) (eqb (length old) 2) _ _ _ refl (rw (same-look room extra held shape p));
+    standing = λ old. on-more (λ (x : Figured). x) (eqb (length old) 2) _ _ _ refl (rw (same-standing room extra held shape));
+    lead = λ p log old. on-more (λ (x : Led). x) (eqb (length old) 1) _ _ _ refl (rw (same-lead room extra held shape p log));
+    write = λ buffer old. on-more (λ (x : Wrote). x) (eqb (length old) 1) _ _ _ refl (cases (sound room held)
+        (λ q. rw (same-sound room extra held shape, q, same-write room extra held shape buffer (few-places room extra held shape q)))
+        (λ q. rw (same-sound room extra held shape, q)));
+  }
+
+pub any-room : Any-room
+any-room most extra words long few = all-alike most extra words long few
+
+-- ---- in a row
+
+-- a call leaves as many words
+module _ (most : ℕ) (lent : Lent) (long : rightLength most (lent .words) ≡ true) where
+  abbrev there : ℕ
+  there = roomOf (lent .words)
+
+  after-call : (c : Call) → length (stateWords (called there (stateOf (lent .words)) c .state)) ≡ length (lent .words)
+  after-call c = length-state there _ (call-shaped there _ c (words-shaped there (lent .words))) ∙ sym (right most (lent .words) long .long)
+
+  same-length : (c : Call) → length (lentCall most lent c .state .words) ≡ length (lent .words)
+  unfolding posted slotted onState
+  same-length (post p count) = cases (rightLength most (lent .words) && true) (λ q. rw q (after-call (post p count))) (λ q. rw q)
+  same-length slot = cases (rightLength most (lent .words) && eqb (length (lent .answer)) 2) (λ q. rw q (after-call slot)) (λ q. rw q)
+
+abbrev roomy : (extra : ℕ) → Lent → Lent
+roomy extra lent = record { words = more extra (lent .words); answer = lent .answer }
+
+one-call : (most extra : ℕ) (lent : Lent) (c : Call) → Alike most extra (lent .words)
+    → lentCall most (roomy extra lent) c ≡ (let r = lentCall most lent c in record { state = roomy extra (r .state); answer = r .answer })
+one-call most extra lent (post p count) same = rw (same .post p count)
+one-call most extra lent slot same = rw (same .slot (lent .answer))
+
+pub any-room-in-a-row : Any-room-in-a-row
+unfolding end answers
+any-room-in-a-row most extra lent [] long few = (refl, refl)
+any-room-in-a-row most extra lent (c ∷ calls) long few =
+    let next = lentCall most lent c .state in
+    let stays = same-length most lent long c in
+    let here : roomOf (next .words) ≡ roomOf (lent .words) = same-room (lent .words) (next .words) stays in
+    let rest = any-room-in-a-row most extra next calls (right-stands most (lent .words) (next .words) stays long) (omega (arith, here, few)) in
+    let one = one-call most extra lent c (any-room most extra (lent .words) long few) in
+    (rw one (rest .0), rw one (ap (λ l. lentCall most lent c .answer ∷ l) (rest .1)))

@@ -1,0 +1,66 @@
+-- Room makes no difference. Behind its N places a state's words may have room for more, which is zeros. With more zeros behind them, up to
+-- the largest N, each call tells the same, and leaves the same words in front of as many zeros. Read the other way round: zeros behind may
+-- be left away. So it is with any words of a right length, and not a sound state's alone: the others are 23 both ways. Those among them
+-- whose N is above their room are so with more room too, since the zeros that N then counts as a place are no requestor's: its rate is 0.
+-- A start alone can tell the room, by 2, where it is too little for N.
+use mathlib.Core.Path.{_≡_}
+use mathlib.Core.Bool.{true}
+use mathlib.Core.List.{List, _++_}
+use Prim.Native.Nat.{ℕ, _+_, _*_, _≤_}
+use lib.IntN.{ℤ}
+use lib.ListN.{replicate}
+use Rattle.lists.specs.Runs.{end, answers}
+use Rattle.calls.specs.Calls.{Call}
+use Rattle.layout.specs.Words.{roomOf, rightLength}
+use Rattle.justrave.specs.Exported.{Stated, posted, Slotted, slotted, Ran, ran, started, startedOf, figured, accountTold, standingTold, led, wrote}
+use Rattle.on_words.specs.Claims.{Lent, lentCall}
+
+-- the words with room for so many places more
+abbrev pub more : (extra : ℕ) → List ℕ → List ℕ
+more extra words = words ++ replicate (6 * extra) 0
+
+-- a table's numbers with room for so many places more
+abbrev pub moreNumbers : (extra : ℕ) → List ℕ → List ℕ
+moreNumbers extra numbers = numbers ++ replicate (4 * extra) 0
+
+-- what is left with so much more room, where this is left without
+abbrev pub stated-more : (extra : ℕ) → Stated → Stated
+stated-more extra r = record { words = more extra (r .words); outcome = r .outcome }
+
+abbrev pub slotted-more : (extra : ℕ) → Slotted → Slotted
+slotted-more extra r = record { words = more extra (r .words); answer = r .answer; outcome = r .outcome }
+
+abbrev pub ran-more : (extra : ℕ) → Ran → Ran
+ran-more extra r = record { words = more extra (r .words); log = r .log; outcome = r .outcome }
+
+-- a start comes to the same, unless it is refused 2: with more room there may be room for N
+abbrev pub Unless-2 : (extra : ℕ) → (without within : Stated) → Type 0
+Unless-2 extra without within = (without .outcome ≡ 2 → ⊥) → within ≡ stated-more extra without
+
+pub record Alike (most extra : ℕ) (words : List ℕ) : Type 0 where
+  -- the calls that change a state
+  pub post : (p count : ℕ) → posted most (more extra words) p count ≡ stated-more extra (posted most words p count)
+  pub slot : (old : List ℕ) → slotted most (more extra words) old ≡ slotted-more extra (slotted most words old)
+  pub run : (log : List ℕ) → ran most (more extra words) log ≡ ran-more extra (ran most words log)
+  -- those that make one
+  pub start : (bytes : List ℕ) (first : ℕ) → Unless-2 extra (started most bytes first words) (started most bytes first (more extra words))
+  pub numbers : (numbers : List ℕ) (first : ℕ)
+      → Unless-2 extra (startedOf most numbers first words) (startedOf most (moreNumbers extra numbers) first (more extra words))
+  -- the questions
+  pub figures : (p j : ℕ) (old : List ℕ) → figured most (more extra words) p j old ≡ figured most words p j old
+  pub account : (p : ℕ) (old : List ℕ) → accountTold most (more extra words) p old ≡ accountTold most words p old
+  pub standing : (old : List ℕ) → standingTold most (more extra words) old ≡ standingTold most words old
+  pub lead : (p : ℕ) (log : List ℕ) (old : List ℤ) → led most (more extra words) p log old ≡ led most words p log old
+  pub write : (buffer old : List ℕ) → wrote most (more extra words) buffer old ≡ wrote most words buffer old
+
+abbrev pub Any-room : Type 0
+Any-room = (most extra : ℕ) (words : List ℕ) → rightLength most words ≡ true → roomOf words + extra ≤ most → Alike most extra words
+
+-- any list of posts and slots: the words at the end, the lent answer, and each outcome
+abbrev pub Any-room-in-a-row : Type 0
+Any-room-in-a-row =
+    (most extra : ℕ) (lent : Lent) (calls : List Call) → rightLength most (lent .words) ≡ true → roomOf (lent .words) + extra ≤ most
+    → let roomy : Lent = record { words = more extra (lent .words); answer = lent .answer } in
+    let last = end (lentCall most) lent calls in
+    (end (lentCall most) roomy calls ≡ record { words = more extra (last .words); answer = last .answer })
+    × (answers (lentCall most) roomy calls ≡ answers (lentCall most) lent calls)

@@ -1,0 +1,3 @@
+-- The number and the place of every refusal.
+pub mod Numbering
+pub mod Places

@@ -1,0 +1,355 @@
+-- The number and the place of a refusal, along the checks of a table and along the reading of its bytes. Assumes nothing.
+use mathlib.Core.Path.{_≡_, refl, ap, sym, _∙_}
+use mathlib.Core.Bool.{Bool, true, false}
+use mathlib.Core.List.{List, [], _∷_}
+use Prim.Native.Nat.{ℕ, zero, suc, _+_, _≤_, _<_}
+use native.Mathlib.Omega.{arith}
+use lib.Dec.{ltb, leb, eqb}
+use lib.IntN.{ℤ}
+use lib.ListN.{length, take, drop, length-take}
+use Rattle.lists.specs.Sums.{total, every}
+use Rattle.lists.specs.Choices.{inRange}
+use Rattle.lists.specs.Overwriting.{writtenOver}
+use Rattle.lists.specs.Runs.{Result}
+use Rattle.lists.proofs.Tests.{cases, in-range-true}
+use Rattle.groups.specs.declared.reading.Reading as number
+use Rattle.groups.specs.declared.reading.Reading.the-variants.{Number, Ended, Malformed}
+use Rattle.groups.specs.Groups.{numberOf}
+use Rattle.arbiter.specs.declared.refusals.Named.{Named}
+use Rattle.arbiter.specs.declared.refusals.Named.the-variants as named
+use Rattle.arbiter.specs.declared.refusals.Refusal.{Refusal}
+use Rattle.arbiter.specs.declared.state.Arbiter.{Arbiter}
+use Rattle.arbiter.specs.declared.table.Requestor.{Requestor}
+use Rattle.arbiter.specs.declared.table.Table.{Table}
+use Rattle.arbiter.specs.Limits.{maxBacklog, maxSlot, maxInput}
+use Rattle.arbiter.specs.Refusals.{originOf, Verdict, faultless, fault, refusal, refusalAt, gate, then, resolve}
+use Rattle.arbiter.specs.Answers.{Answer, accepted, granted, idle, refused, unless}
+use Rattle.arbiter.specs.Table.{rate, requestorClear, requestorsOf, tableOf, Bounds, denominatorBounds, countBounds, rateBounds, burstBounds, needBounds, withinBounds, heldTo, rowVerdict, eachPlace, tailVerdict, rateSumVerdict, tableVerdict}
+use Rattle.arbiter.specs.Figures.{finish, finishVerdict, finishesVerdict, admissionVerdict}
+use Rattle.arbiter.specs.State.{backlog, accountAt, sound, placeVerdict}
+use Rattle.arbiter.specs.Input.{inputVerdict}
+use Rattle.arbiter.specs.Start.{opening, noState, startVerdict, start}
+use Rattle.arbiter.specs.Asked as asked
+use Rattle.arbiter.proofs.Checks.{held-open, fair}
+use Rattle.arbiter.proofs.Sound.{place-open, sound-table}
+use Rattle.table_bytes.specs.Reading.{Read, read, stop, next, readAs, numberRead, fieldRead, rowRead, itemsRead, rowsRead, placesRead, numbersRead, lastVerdict, TableRead, accept, refuse, settled, readTable}
+use Rattle.table_bytes.specs.Writing as writing
+use Rattle.leads.specs.Lead as leads
+use Rattle.rule.specs.declared.rule.Grant.{Grant}
+use Rattle.rule.specs.declared.rule.Grant.the-variants.{Nobody, Place}
+use Rattle.calls.specs.Calls.{Call, post, slot, grantOf, slotAnswer, done, ruleVerdict, outcome, called}
+use Rattle.run.specs.Log.{Outcome, slotsState, slotsLog, slotsVerdict, runVerdict, run}
+use Rattle.table_bytes.proofs.Accepted.{stop-read, next-open, read-same, field-open}
+use Rattle.starts.specs.Starts.{turnedDown, begun}
+use Rattle.asking.specs.Look as look
+use Rattle.outcomes.specs.Outcomes.{placeCode, refusalCode}
+use Rattle.outcomes.specs.Places.{known, placed, Told, Code-tells, Code-apart, Start-names-below, Table-start-names-below, Calls-name-below, Runs-name-below, Leads-name-below, Figures-name-below, Write-names-below, Looks-name-below, Standings-name-below}
+
+-- ---- refusals by their number
+
+plain : (limit n : ℕ) → known n ≡ true → false ≡ placed n → Told limit (refusal n)
+plain limit n e none = record { number = e; names = none; origin = refl; place = tt }
+
+at-place : (limit n p : ℕ) → known n ≡ true → true ≡ placed n → p < limit → Told limit (refusalAt n p)
+at-place limit n p e some h = record { number = e; names = some; origin = refl; place = h }
+
+known-range : (n : ℕ) → known n ≡ true → (1 ≤ n) × (n ≤ 23)
+known-range n e = cases (inRange 1 14 n)
+    (λ low. let l = in-range-true 1 14 n low in (l .0, omega (arith, l .1)))
+    (λ high. let h = in-range-true 21 23 n (rw high at e) in (omega (arith, h .0), h .1))
+
+place-same : (x y : Named) → placeCode x ≡ placeCode y → x ≡ y
+place-same named.Nowhere named.Nowhere e = refl
+place-same named.Nowhere (named.Place p) e = absurd (omega arith)
+place-same (named.Place p) named.Nowhere e = absurd (omega arith)
+place-same (named.Place p) (named.Place q) e = let same : p ≡ q = omega arith in ap named.Place same
+
+pub code-tells : Code-tells
+unfolding refusalCode
+code-tells limit r q t u e =
+    let a = known-range (r .number) (t .number) in
+    let b = known-range (q .number) (u .number) in
+    let number : r .number ≡ q .number = omega (arith, a, b, e) in
+    let place = place-same (r .place) (q .place) (omega (arith, a, b, e)) in
+    same-refusal r q number place (t .origin ∙ ap originOf number ∙ sym (u .origin))
+  where
+    same-refusal : (r q : Refusal) → r .number ≡ q .number → r .place ≡ q .place → r .origin ≡ q .origin → r ≡ q
+    same-refusal r q f g h = rw (f, g, h)
+
+pub code-apart : Code-apart
+unfolding refusalCode
+code-apart limit r t = let a = known-range (r .number) (t .number) in ((λ e. absurd (omega (arith, a))), (λ e. absurd (omega (arith, a))))
+
+-- ---- along checks
+
+abbrev Small : ℕ → Verdict → Type 0
+Small limit v = (r : Refusal) → v ≡ fault r → Told limit r
+
+module _ (limit : ℕ) where
+  small-none : Small limit faultless
+  small-none r e = let z : _≡_ {A = ℕ} 0 1 = cc in absurd (omega arith)
+
+  small-fault : (q : Refusal) → Told limit q → Small limit (fault q)
+  small-fault q b r e = let same : q ≡ r = cc in rw same at b
+
+  small-gate : (q : Refusal) (test : Bool) (rest : Verdict) → Told limit q → Small limit rest → Small limit (gate q test rest)
+  unfolding gate
+  small-gate q true rest b s = s
+  small-gate q false rest b s = small-fault q b
+
+  small-then : (v rest : Verdict) → Small limit v → (v ≡ faultless → Small limit rest) → Small limit (then v rest)
+  unfolding then
+  small-then faultless rest s t = t refl
+  small-then (fault q) rest s t = s
+
+  small-held : (b : Bounds) (x : ℕ) → Told limit (b .outside) → Small limit (heldTo b x)
+  unfolding heldTo
+  small-held b x h = small-gate (b .outside) (inRange (b .low) (b .high) x) faultless h small-none
+
+  small-each : (check : ℕ → Requestor → Verdict) → ((p : ℕ) (x : Requestor) → p < limit → Small limit (check p x))
+      → (p : ℕ) (rs : List Requestor) → p + length rs ≤ limit → Small limit (eachPlace check p rs)
+  unfolding eachPlace
+  small-each check h p [] few = small-none
+  small-each check h p (x ∷ rs) few = small-then (check p x) (eachPlace check (suc p) rs) (h p x (omega arith)) (λ ok. small-each check h (suc p) rs (omega arith))
+
+  small-row : (d p : ℕ) (x : Requestor) → p < limit → Small limit (rowVerdict d p x)
+  unfolding rowVerdict
+  small-row d p x h =
+      small-then (heldTo (rateBounds d p) (x .rate)) _ (small-held (rateBounds d p) (x .rate) (at-place limit 3 p refl refl h)) (λ a.
+      small-then (heldTo (burstBounds d p) (x .burst)) _ (small-held (burstBounds d p) (x .burst) (at-place limit 4 p refl refl h)) (λ b.
+      small-then (heldTo (needBounds p) (x .need .0)) _ (small-held (needBounds p) (x .need .0) (at-place limit 5 p refl refl h)) (λ c.
+      small-held (withinBounds p) (x .within .0) (at-place limit 5 p refl refl h))))
+
+  -- as many rows as N says, at most the largest N
+  few-rows : (n : ℕ) (rs : List Requestor) → n ≤ limit → 0 + length (take n rs) ≤ limit
+  few-rows n rs h = omega (arith, length-take n rs)
+
+  small-sum : (t : Table) → Small limit (rateSumVerdict t)
+  unfolding rateSumVerdict
+  small-sum t = small-gate (refusal 6) (leb (total rate (requestorsOf t)) (t .denominator)) faultless (plain limit 6 refl refl) small-none
+
+  small-finishes : (t : Table) → t .count ≤ limit → Small limit (finishesVerdict t)
+  unfolding finishVerdict
+  small-finishes t h =
+      small-each (finishVerdict (t .denominator) (requestorsOf t))
+      (λ p x few. small-gate (refusalAt 7 p) (leb (finish (t .denominator) (requestorsOf t) p (x .need .0)) (x .within .0)) faultless (at-place limit 7 p refl refl few) small-none)
+      0 (requestorsOf t) (few-rows (t .count) (t .requestors) h)
+
+  small-table : (t : Table) → Small limit (tableVerdict limit t)
+  unfolding tableVerdict tailVerdict
+  small-table t =
+      small-then (heldTo denominatorBounds (t .denominator)) _ (small-held denominatorBounds (t .denominator) (plain limit 1 refl refl)) (λ a.
+      small-then (heldTo (countBounds limit) (t .count)) _ (small-held (countBounds limit) (t .count) (plain limit 2 refl refl)) (λ n.
+      small-then (tailVerdict t) _ (small-gate (refusal 2) (every requestorClear (drop (t .count) (t .requestors))) faultless (plain limit 2 refl refl) small-none) (λ b.
+      small-then (eachPlace (rowVerdict (t .denominator)) 0 (requestorsOf t)) _
+      (small-each (rowVerdict (t .denominator)) (small-row (t .denominator)) 0 (requestorsOf t) (few-rows (t .count) (t .requestors) (held-open (countBounds limit) (t .count) n .1)))
+      (λ c. small-sum t))))
+
+  small-admission : (t : Table) → Small limit (admissionVerdict limit t)
+  unfolding admissionVerdict
+  small-admission t = small-then (tableVerdict limit t) (finishesVerdict t) (small-table t) (λ ok. small-finishes t (fair limit t ok .count-most))
+
+-- ---- along a reading
+
+abbrev SmallRead : {X : Type 0} → ℕ → Read X → Type 0
+SmallRead limit x = (r : Refusal) → x ≡ stop r → Told limit r
+
+module _ (limit : ℕ) where
+  small-read : {X : Type 0} (x : X) (rest : List ℕ) → SmallRead limit (read x rest)
+  small-read x rest r e = stop-read (sym e)
+
+  small-stop : {X : Type 0} (q : Refusal) → Told limit q → SmallRead {X = X} limit (stop q)
+  small-stop q b r e = let same : q ≡ r = cc in rw same at b
+
+  small-next : {X Y : Type 0} (x : Read X) (more : X → List ℕ → Read Y) → SmallRead limit x → ((y : X) (rest : List ℕ) → x ≡ read y rest → SmallRead limit (more y rest))
+      → SmallRead limit (next x more)
+  unfolding next
+  small-next (read y rest) more s t = t y rest refl
+  small-next (stop q) more s t = small-stop q (s q refl)
+
+  small-number : (bytes : List ℕ) (x : number.Reading) → SmallRead limit (readAs bytes x)
+  small-number bytes (Number x taken) = small-read x (drop taken bytes)
+  small-number bytes Ended = small-stop (refusal 8) (plain limit 8 refl refl)
+  small-number bytes Malformed = small-stop (refusal 9) (plain limit 9 refl refl)
+
+  small-resolve : {X : Type 0} (v : Verdict) (x : Read X) → SmallRead limit x → Small limit v → SmallRead limit (resolve v x stop)
+  small-resolve faultless x s t = s
+  small-resolve (fault q) x s t = small-stop q (t q refl)
+
+  small-field : (b : Bounds) (bytes : List ℕ) → Told limit (b .outside) → SmallRead limit (fieldRead b bytes)
+  unfolding fieldRead
+  small-field b bytes h =
+      small-next (numberRead bytes) _ (small-number bytes (numberOf bytes)) (λ x rest e. small-resolve (heldTo b x) (read x rest) (small-read x rest) (small-held limit b x h))
+
+  small-row-read : (d p : ℕ) (bytes : List ℕ) → p < limit → SmallRead limit (rowRead d p bytes)
+  unfolding rowRead
+  small-row-read d p bytes h =
+      small-next (fieldRead (rateBounds d p) bytes) _ (small-field (rateBounds d p) bytes (at-place limit 3 p refl refl h)) (λ n l e.
+      small-next (fieldRead (burstBounds d p) l) _ (small-field (burstBounds d p) l (at-place limit 4 p refl refl h)) (λ b m f.
+      small-next (fieldRead (needBounds p) m) _ (small-field (needBounds p) m (at-place limit 5 p refl refl h)) (λ j k g.
+      small-next (fieldRead (withinBounds p) k) _ (small-field (withinBounds p) k (at-place limit 5 p refl refl h)) (λ x o i. small-read _ o))))
+
+  small-items : {X : Type 0} (item : ℕ → List ℕ → Read X) → ((p : ℕ) (bytes : List ℕ) → p < limit → SmallRead limit (item p bytes))
+      → (items p : ℕ) (bytes : List ℕ) → p + items ≤ limit → SmallRead limit (itemsRead item items p bytes)
+  unfolding itemsRead
+  small-items item h zero p bytes few = small-read [] bytes
+  small-items item h (suc items) p bytes few =
+      small-next (item p bytes) _ (h p bytes (omega arith)) (λ x l e.
+      small-next (itemsRead item items (suc p) l) _ (small-items item h items (suc p) l (omega arith)) (λ xs m f. small-read (x ∷ xs) m))
+
+  small-places : (d n : ℕ) (bytes : List ℕ) → n ≤ limit → SmallRead limit (placesRead limit d n bytes)
+  unfolding placesRead
+  small-places d n bytes h =
+      small-next (rowsRead n d 0 bytes) _ (small-items (rowRead d) (small-row-read d) n 0 bytes (omega arith)) (λ rows l e. small-read (tableOf limit d n rows) l)
+
+  -- a table that was read has at most the largest N
+  few-places : (d n : ℕ) (bytes : List ℕ) (t : Table) (rest : List ℕ) → n ≤ limit → placesRead limit d n bytes ≡ read t rest → t .count ≤ limit
+  unfolding placesRead tableOf
+  few-places d n bytes t rest h e =
+      let o = next-open (rowsRead n d 0 bytes) (λ rows l. read (tableOf limit d n rows) l) t rest e in
+      let same = read-same (tableOf limit d n (o .value)) t (o .left) rest (o .second) .0 in
+      let count : n ≡ t .count = ap (λ x. x .count) same in
+      omega arith
+
+  module _ (bytes : List ℕ) where
+    small-numbers : SmallRead limit (numbersRead limit bytes)
+    unfolding numbersRead
+    small-numbers =
+        small-next (fieldRead denominatorBounds bytes) _ (small-field denominatorBounds bytes (plain limit 1 refl refl)) (λ d l e.
+        small-next (fieldRead (countBounds limit) l) _ (small-field (countBounds limit) l (plain limit 2 refl refl)) (λ n m f.
+        small-places d n m (held-open (countBounds limit) n (field-open (countBounds limit) l n m f .held) .1)))
+
+    few-numbers : (t : Table) (rest : List ℕ) → numbersRead limit bytes ≡ read t rest → t .count ≤ limit
+    unfolding numbersRead
+    few-numbers t rest e =
+        let a = next-open (fieldRead denominatorBounds bytes) (λ d l. next (fieldRead (countBounds limit) l) λ n m. placesRead limit d n m) t rest e in
+        let b = next-open (fieldRead (countBounds limit) (a .left)) (λ n m. placesRead limit (a .value) n m) t rest (a .second) in
+        few-places (a .value) (b .value) (b .left) t rest (held-open (countBounds limit) (b .value) (field-open (countBounds limit) (a .left) (b .value) (b .left) (b .first) .held) .1) (b .second)
+
+  -- what a reading answers
+  small-settled : (x : Read Table) → SmallRead limit x → ((t : Table) (rest : List ℕ) → x ≡ read t rest → t .count ≤ limit)
+      → (r : Refusal) → settled limit x .answer ≡ refused r → Told limit r
+  unfolding settled lastVerdict
+  small-settled (stop q) s few r e = let same : q ≡ r = cc in rw same at (s q refl)
+  small-settled (read t rest) s few r e =
+      let last = small-then limit (gate (refusal 10) (eqb (length rest) 0) faultless) _ (small-gate limit (refusal 10) (eqb (length rest) 0) faultless (plain limit 10 refl refl) (small-none limit)) (λ a.
+      small-then limit (rateSumVerdict t) (finishesVerdict t) (small-sum limit t) (λ b. small-finishes limit t (few t rest refl))) in
+      by (lastVerdict t rest) last e
+    where
+      by : (v : Verdict) → Small limit v → resolve {X = TableRead} v (accept t) (refuse limit) .answer ≡ refused r → Told limit r
+      by faultless h f = let z : _≡_ {A = ℕ} 0 1 = cc in absurd (omega arith)
+      by (fault q) h f = let same : q ≡ r = cc in rw same at (h q refl)
+
+  small-answer : (bytes : List ℕ) (r : Refusal) → readTable limit bytes .answer ≡ refused r → Told limit r
+  unfolding readTable
+  small-answer bytes r e = small-settled (numbersRead limit bytes) (small-numbers bytes) (few-numbers bytes) r e
+
+-- ---- the calls
+
+pub table-start-names-below : Table-start-names-below
+unfolding start startVerdict
+table-start-names-below limit t first r e =
+    by (startVerdict limit t first)
+    (small-then limit (admissionVerdict limit t) _ (small-admission limit t) (λ ok. small-gate limit (refusal 12) (leb first maxSlot) faultless (plain limit 12 refl refl) (small-none limit))) e
+  where
+    by : (v : Verdict) → Small limit v → resolve {X = Result Arbiter Answer} v (record { state = opening t first; answer = accepted }) (λ q. record { state = noState limit; answer = refused q }) .answer ≡ refused r → Told limit r
+    by faultless h f = let z : _≡_ {A = ℕ} 0 1 = cc in absurd (omega arith)
+    by (fault q) h f = let same : q ≡ r = cc in rw same at (h q refl)
+
+pub start-names-below : Start-names-below
+unfolding begun
+start-names-below limit bytes first r e = by (readTable limit bytes .answer) refl e
+  where
+    by : (a : Answer) → readTable limit bytes .answer ≡ a → unless a (turnedDown limit) (start limit (readTable limit bytes .table) first) .answer ≡ refused r → Told limit r
+    by accepted h f = table-start-names-below limit (readTable limit bytes .table) first r f
+    by (granted stamp p) h f = table-start-names-below limit (readTable limit bytes .table) first r f
+    by (idle stamp) h f = table-start-names-below limit (readTable limit bytes .table) first r f
+    by (refused q) h f = let same : q ≡ r = cc in small-answer limit bytes r (h ∙ ap refused same)
+
+small-rule : (limit : ℕ) (s : Arbiter) (c : Call) → Small limit (ruleVerdict s c)
+unfolding ruleVerdict
+small-rule limit s (post p count) =
+    small-gate limit (refusal 11) (ltb p (s .table .count)) _ (plain limit 11 refl refl)
+    (small-gate limit (refusal 21) (leb (backlog (accountAt p (s .accounts)) + count) maxBacklog) faultless (plain limit 21 refl refl) (small-none limit))
+small-rule limit s slot = small-gate limit (refusal 22) (ltb (s .slot .0) maxSlot) faultless (plain limit 22 refl refl) (small-none limit)
+
+outcome-fault : (v : Verdict) (s : Arbiter) (c : Call) (r : Refusal) → outcome v s c .answer ≡ refused r → v ≡ fault r
+unfolding done
+outcome-fault faultless s (post p count) r e = let z : _≡_ {A = ℕ} 0 1 = cc in absurd (omega arith)
+outcome-fault faultless s slot r e = never (grantOf s) e
+  where
+    never : (g : Grant) → slotAnswer (s .slot .0) g ≡ refused r → faultless ≡ fault r
+    never Nobody f = let z : _≡_ {A = ℕ} 0 1 = cc in absurd (omega arith)
+    never (Place p) f = let z : _≡_ {A = ℕ} 0 1 = cc in absurd (omega arith)
+outcome-fault (fault q) s c r e = let same : q ≡ r = cc in ap fault same
+
+pub calls-name-below : Calls-name-below
+unfolding called
+calls-name-below limit s c r e =
+    let v = gate (refusal 23) (sound limit s) (ruleVerdict s c) in
+    small-gate limit (refusal 23) (sound limit s) (ruleVerdict s c) (plain limit 23 refl refl) (small-rule limit s c) r (outcome-fault v s c r e)
+
+small-input : (limit bytes : ℕ) → Small limit (inputVerdict bytes)
+unfolding inputVerdict
+small-input limit bytes = small-gate limit (refusal 13) (leb bytes maxInput) faultless (plain limit 13 refl refl) (small-none limit)
+
+pub runs-name-below : Runs-name-below
+unfolding run runVerdict slotsVerdict
+runs-name-below limit s log r e =
+    by (runVerdict limit s (length log))
+    (small-gate limit (refusal 23) (sound limit s) _ (plain limit 23 refl refl)
+    (small-then limit (inputVerdict (length log)) _ (small-input limit (length log)) (λ ok. small-gate limit (refusal 22) (leb (s .slot .0 + length log) maxSlot) faultless (plain limit 22 refl refl) (small-none limit)))) e
+  where
+    by : (v : Verdict) → Small limit v → resolve {X = Outcome} v (record { state = slotsState (length log) s; answer = accepted; log = slotsLog (length log) s }) (λ q. record { state = s; answer = refused q; log = log }) .answer ≡ refused r → Told limit r
+    by faultless h f = let z : _≡_ {A = ℕ} 0 1 = cc in absurd (omega arith)
+    by (fault q) h f = let same : q ≡ r = cc in rw same at (h q refl)
+
+small-asked : (limit : ℕ) (s : Arbiter) (p : ℕ) → Small limit (placeVerdict limit s p)
+unfolding placeVerdict
+small-asked limit s p = small-gate limit (refusal 23) (sound limit s) _ (plain limit 23 refl refl) (small-gate limit (refusal 11) (ltb p (s .table .count)) faultless (plain limit 11 refl refl) (small-none limit))
+
+pub figures-name-below : Figures-name-below
+unfolding asked.figures asked.figuresVerdict
+figures-name-below limit s p j r e =
+    by _ _ (asked.figuresVerdict limit s p j)
+    (small-then limit (placeVerdict limit s p) _ (small-asked limit s p) (λ ok. small-held limit (needBounds p) j (at-place limit 5 p refl refl (few ok)))) e
+  where
+    few : placeVerdict limit s p ≡ faultless → p < limit
+    few ok = let a = place-open limit s p ok in omega (arith, a .1, fair limit (s .table) (sound-table limit s (a .0)) .count-most)
+
+    by : (x y : ℕ) (v : Verdict) → Small limit v → resolve v (asked.figured x y) asked.refused ≡ asked.refused r → Told limit r
+    by x y faultless h f = let z : _≡_ {A = ℕ} 0 1 = cc in absurd (omega arith)
+    by x y (fault q) h f = let same : q ≡ r = cc in rw same at (h q refl)
+
+pub leads-name-below : Leads-name-below
+unfolding leads.leadAsked leads.leadVerdict
+leads-name-below limit s p log r e =
+    by _ (leads.leadVerdict limit s p (length log)) (small-then limit (placeVerdict limit s p) _ (small-asked limit s p) (λ ok. small-input limit (length log))) e
+  where
+    by : (x : ℤ) (v : Verdict) → Small limit v → resolve v (leads.lead x) leads.refused ≡ leads.refused r → Told limit r
+    by x faultless h f = let z : _≡_ {A = ℕ} 0 1 = cc in absurd (omega arith)
+    by x (fault q) h f = let same : q ≡ r = cc in rw same at (h q refl)
+
+pub write-names-below : Write-names-below
+unfolding writing.writeTable writing.writeVerdict
+write-names-below limit t buffer r e =
+    by (writing.writeVerdict limit t (length buffer))
+    (small-then limit (admissionVerdict limit t) _ (small-admission limit t) (λ ok. small-gate limit (refusal 14) (leb (length (writing.tableBytes t)) (length buffer)) faultless (plain limit 14 refl refl) (small-none limit))) e
+  where
+    by : (v : Verdict) → Small limit v → resolve {X = writing.TableWritten} v (record { answer = writing.wrote (length (writing.tableBytes t)); buffer = writtenOver (writing.tableBytes t) buffer }) (λ q. record { answer = writing.refused q; buffer = buffer }) .answer ≡ writing.refused r → Told limit r
+    by faultless h f = let z : _≡_ {A = ℕ} 0 1 = cc in absurd (omega arith)
+    by (fault q) h f = let same : q ≡ r = cc in rw same at (h q refl)
+
+-- a question that its checks turn down
+small-told : {X : Type 0} (limit : ℕ) (x : X) (v : Verdict) → Small limit v → (r : Refusal) → resolve v (look.told x) look.refused ≡ look.refused r → Told limit r
+small-told limit x faultless h r f = let z : _≡_ {A = ℕ} 0 1 = cc in absurd (omega arith)
+small-told limit x (fault q) h r f = let same : q ≡ r = cc in rw same at (h q refl)
+
+pub looks-name-below : Looks-name-below
+unfolding look.accountAsked
+looks-name-below limit s p r e = small-told limit _ (placeVerdict limit s p) (small-asked limit s p) r e
+
+pub standings-name-below : Standings-name-below
+unfolding look.standing
+standings-name-below limit s r e =
+    small-told limit _ (gate (refusal 23) (sound limit s) faultless) (small-gate limit (refusal 23) (sound limit s) faultless (plain limit 23 refl refl) (small-none limit)) r e

@@ -1,0 +1,24 @@
+-- An outcome: 0 is accepted, and a refusal is its number in the low 8 bits, and above them place + 1 where it names a place. The exported
+-- calls add only 255, for lent memory of a wrong length, ahead of all else.
+use Prim.Native.Nat.{ℕ, _+_, _*_}
+use Rattle.arbiter.specs.declared.refusals.Named.{Named}
+use Rattle.arbiter.specs.declared.refusals.Named.the-variants as named
+use Rattle.arbiter.specs.declared.refusals.Refusal.{Refusal}
+use Rattle.arbiter.specs.Answers.{Answer, accepted, granted, idle, refused}
+
+-- a place that a refusal names, as place + 1
+abbrev pub placeCode : Named → ℕ
+placeCode named.Nowhere = 0
+placeCode (named.Place p) = p + 1
+
+unfoldable pub refusalCode : Refusal → ℕ
+refusalCode r = r .number + 256 * placeCode (r .place)
+
+abbrev pub answerCode : Answer → ℕ
+answerCode accepted = 0
+answerCode (granted stamp p) = 0
+answerCode (idle stamp) = 0
+answerCode (refused r) = refusalCode r
+
+abbrev pub wrongLength : ℕ
+wrongLength = 255

@@ -1,0 +1,86 @@
+-- A refusal of any call has one of document 01's numbers, the cause that goes with it, and a place exactly where it is 3, 4, 5 or 7: one that
+-- there is room for. So an outcome tells the refusal; 0 is no refusal, and 255 is none of document 01's.
+use mathlib.Core.Path.{_≡_}
+use mathlib.Core.Bool.{Bool, true, false}
+use lib.Dec.{eqb}
+use mathlib.Core.List.{List}
+use Prim.Native.Nat.{ℕ, _<_}
+use Rattle.lists.specs.Choices.{pick, inRange}
+use Rattle.arbiter.specs.declared.refusals.Named.{Named}
+use Rattle.arbiter.specs.declared.refusals.Named.the-variants as named
+use Rattle.arbiter.specs.declared.refusals.Refusal.{Refusal}
+use Rattle.arbiter.specs.declared.state.Arbiter.{Arbiter}
+use Rattle.arbiter.specs.declared.table.Table.{Table}
+use Rattle.arbiter.specs.Refusals.{originOf}
+use Rattle.arbiter.specs.Answers.{refused}
+use Rattle.arbiter.specs.Start.{start}
+use Rattle.arbiter.specs.Asked as asked
+use Rattle.leads.specs.Lead as leads
+use Rattle.table_bytes.specs.Reading.{readTable}
+use Rattle.table_bytes.specs.Writing as writing
+use Rattle.calls.specs.Calls.{Call, called}
+use Rattle.run.specs.Log.{run}
+use Rattle.starts.specs.Starts.{begun}
+use Rattle.asking.specs.Look as look
+use Rattle.outcomes.specs.Outcomes.{refusalCode, wrongLength}
+
+abbrev pub Below : ℕ → Named → Type 0
+Below limit named.Nowhere = Unit {0}
+Below limit (named.Place p) = p < limit
+
+-- the numbers of refusals: 1 to 14 and 21 to 23
+abbrev pub known : ℕ → Bool
+known n = pick (inRange 1 14 n) true (inRange 21 23 n)
+
+-- those that name a place
+abbrev pub placed : ℕ → Bool
+placed n = pick (inRange 3 5 n) true (eqb n 7)
+
+abbrev pub namesPlace : Named → Bool
+namesPlace named.Nowhere = false
+namesPlace (named.Place p) = true
+
+pub record Told (limit : ℕ) (r : Refusal) : Type 0 where
+  pub number : known (r .number) ≡ true
+  pub names : namesPlace (r .place) ≡ placed (r .number)
+  pub origin : r .origin ≡ originOf (r .number)
+  pub place : Below limit (r .place)
+
+-- two refusals with one outcome are one refusal, and it is neither 0 nor 255
+abbrev pub Code-tells : Type 0
+Code-tells = (limit : ℕ) (r q : Refusal) → Told limit r → Told limit q → refusalCode r ≡ refusalCode q → r ≡ q
+
+abbrev pub Code-apart : Type 0
+Code-apart = (limit : ℕ) (r : Refusal) → Told limit r → (refusalCode r ≡ 0 → ⊥) × (refusalCode r ≡ wrongLength → ⊥)
+
+abbrev pub Start-names-below : Type 0
+Start-names-below =
+    (limit : ℕ) (bytes : List ℕ) (first : ℕ) (r : Refusal) → begun limit (readTable limit bytes) first .answer ≡ refused r → Told limit r
+
+-- a start of a table, whatever it was given by
+abbrev pub Table-start-names-below : Type 0
+Table-start-names-below = (limit : ℕ) (t : Table) (first : ℕ) (r : Refusal) → start limit t first .answer ≡ refused r → Told limit r
+
+-- a post or a slot
+abbrev pub Calls-name-below : Type 0
+Calls-name-below = (limit : ℕ) (s : Arbiter) (c : Call) (r : Refusal) → called limit s c .answer ≡ refused r → Told limit r
+
+abbrev pub Runs-name-below : Type 0
+Runs-name-below = (limit : ℕ) (s : Arbiter) (log : List ℕ) (r : Refusal) → run limit s log .answer ≡ refused r → Told limit r
+
+abbrev pub Leads-name-below : Type 0
+Leads-name-below =
+    (limit : ℕ) (s : Arbiter) (p : ℕ) (log : List ℕ) (r : Refusal) → leads.leadAsked limit s p log ≡ leads.refused r → Told limit r
+
+abbrev pub Figures-name-below : Type 0
+Figures-name-below = (limit : ℕ) (s : Arbiter) (p j : ℕ) (r : Refusal) → asked.figures limit s p j ≡ asked.refused r → Told limit r
+
+abbrev pub Write-names-below : Type 0
+Write-names-below =
+    (limit : ℕ) (t : Table) (buffer : List ℕ) (r : Refusal) → writing.writeTable limit t buffer .answer ≡ writing.refused r → Told limit r
+
+abbrev pub Looks-name-below : Type 0
+Looks-name-below = (limit : ℕ) (s : Arbiter) (p : ℕ) (r : Refusal) → look.accountAsked limit s p ≡ look.refused r → Told limit r
+
+abbrev pub Standings-name-below : Type 0
+Standings-name-below = (limit : ℕ) (s : Arbiter) (r : Refusal) → look.standing limit s ≡ look.refused r → Told limit r

@@ -1,0 +1,25 @@
+// A refusal as one number, and the number of a wrong length.
+use arbiter::refusals::Cause;
+use arbiter::refusals::Named;
+ghost use mathlib.Core.Path.{_≡_};
+ghost use Rattle.arbiter.specs.Limits.{maxPlaces};
+ghost use Rattle.arbiter.specs.Refusals.{refusalOf};
+ghost use Rattle.outcomes.specs.Outcomes.{refusalCode};
+ghost use Rattle.outcomes.specs.Places.{Below};
+
+// Lent words, a lent answer or lent numbers of a wrong length. No refusal of document 01 has this number.
+pub const WRONG_LENGTH: u64 = 255;
+
+// A refusal: its number in the low 8 bits, and above them the place it names + 1.
+pub fn refusal_code(c: Cause) -> u64
+    requires { ⌜ Below maxPlaces (refusalOf c .place) ⌝ }
+    ensures { λ r. ⌜ r ≡ refusalCode (refusalOf c) ⌝ }
+{
+    let r = c.refusal();
+    let number = r.number as u64;
+    let place = r.place;
+    match place {
+        Named::Nowhere => number,
+        Named::Place(p) => number + 256 * ((p + 1) as u64),
+    }
+}

@@ -1,0 +1,3 @@
+// The outcome of an exported call as one number.
+
+pub mod codes;

@@ -1,0 +1,162 @@
+-- Verdicts as tests: a series of checks finds no fault where each of its tests passes. So test 23 is a row of tests. Assumes nothing.
+use mathlib.Core.Path.{_≡_, refl, ap, sym, _∙_}
+use mathlib.Core.Bool.{Bool, true, false, _&&_}
+use mathlib.Core.List.{List}
+use Prim.Native.Nat.{ℕ, _≤_, _<_}
+use borrow.Author.Tests.{le-leb, lt-leb}
+use lib.Dec.{leb}
+use lib.ListN.{length, take, drop, getD}
+use Rattle.lists.specs.Choices.{inRange}
+use Rattle.lists.specs.Sums.{total, every}
+use Rattle.lists.proofs.Tests.{and-false, in-range-true}
+use Rattle.arbiter.specs.declared.refusals.Refusal.{Refusal}
+use Rattle.arbiter.specs.declared.table.Requestor.{Requestor}
+use Rattle.arbiter.specs.declared.table.Table.{Table}
+use Rattle.arbiter.specs.declared.state.Arbiter.{Arbiter}
+use Rattle.arbiter.specs.Limits.{maxDenominator, maxSlot}
+use Rattle.arbiter.specs.Refusals.{Verdict, faultless, fault, gate, then}
+use Rattle.arbiter.specs.Table.{Bounds, rate, rateBounds, burstBounds, needBounds, withinBounds, denominatorBounds, countBounds, heldTo, requestorClear, requestorsOf, rowVerdict, eachPlace, tailVerdict, rateSumVerdict, tableVerdict}
+use Rattle.arbiter.specs.State.{accountClear, isFaultless, accountsHold, sound}
+use Rattle.layout.specs.Words.{placeStart, wordCount, roomOf, wordsState, stateOf, isZero}
+use Rattle.layout.proofs.Stores.{clear-from}
+use Rattle.soundness.specs.Soundness.{placesHold}
+
+both : (v w : Verdict) → isFaultless (then v w) ≡ (isFaultless v && isFaultless w)
+unfolding then
+both faultless w = refl
+both (fault r) w = refl
+
+gated : (r : Refusal) (test : Bool) → isFaultless (gate r test faultless) ≡ test
+unfolding gate
+gated r true = refl
+gated r false = refl
+
+within : (b : Bounds) (x : ℕ) → isFaultless (heldTo b x) ≡ inRange (b .low) (b .high) x
+unfolding heldTo
+within b x = gated (b .outside) (inRange (b .low) (b .high) x)
+
+-- what the code's bounds admit, the field's do
+pub admitted : (v : Bool) (b field : Bounds) (x : ℕ) → v ≡ inRange (b .low) (b .high) x → b ≡ field → inRange (field .low) (field .high) x ≡ v
+admitted v b field x e f = sym (e ∙ ap (λ y. inRange (y .low) (y .high) x) f)
+
+-- checks 3, 4 and 5 of a row
+pub row-test : (d p : ℕ) (r : Requestor)
+    → isFaultless (rowVerdict d p r)
+    ≡ (inRange (rateBounds d p .low) (rateBounds d p .high) (r .rate)
+    && (inRange (burstBounds d p .low) (burstBounds d p .high) (r .burst)
+    && (inRange (needBounds p .low) (needBounds p .high) (r .need .0)
+    && inRange (withinBounds p .low) (withinBounds p .high) (r .within .0))))
+unfolding rowVerdict
+row-test d p r =
+    let rates = heldTo (rateBounds d p) (r .rate) in
+    let bursts = heldTo (burstBounds d p) (r .burst) in
+    let needs = heldTo (needBounds p) (r .need .0) in
+    let withins = heldTo (withinBounds p) (r .within .0) in
+    both rates (then bursts (then needs withins))
+    ∙ rw (both bursts (then needs withins), both needs withins, within (rateBounds d p) (r .rate), within (burstBounds d p) (r .burst), within (needBounds p) (r .need .0), within (withinBounds p) (r .within .0))
+
+-- checks 1 to 6
+table-test : (limit : ℕ) (t : Table)
+    → isFaultless (tableVerdict limit t)
+    ≡ (inRange 1 maxDenominator (t .denominator)
+    && (inRange 1 limit (t .count)
+    && (every requestorClear (drop (t .count) (t .requestors))
+    && (isFaultless (eachPlace (rowVerdict (t .denominator)) 0 (requestorsOf t))
+    && leb (total rate (requestorsOf t)) (t .denominator)))))
+unfolding tableVerdict tailVerdict rateSumVerdict
+table-test limit t =
+    let d = heldTo denominatorBounds (t .denominator) in
+    let n = heldTo (countBounds limit) (t .count) in
+    let tail = tailVerdict t in
+    let rows = eachPlace (rowVerdict (t .denominator)) 0 (requestorsOf t) in
+    let sum = rateSumVerdict t in
+    both d (then n (then tail (then rows sum)))
+    ∙ rw (
+      both n (then tail (then rows sum)),
+      both tail (then rows sum),
+      both rows sum,
+      within denominatorBounds (t .denominator),
+      within (countBounds limit) (t .count),
+      gated _ (every requestorClear (drop (t .count) (t .requestors))),
+      gated _ (leb (total rate (requestorsOf t)) (t .denominator)),
+    )
+
+-- D, N, the slot number, the walk over the places, and what lies past them
+regroup : (d n tail rows sum slot accounts clear : Bool)
+    → ((d && (n && (tail && (rows && sum)))) && (slot && (accounts && clear))) ≡ (d && (n && (slot && ((rows && (accounts && sum)) && (tail && clear)))))
+regroup false n tail rows sum slot accounts clear = refl
+regroup true false tail rows sum slot accounts clear = refl
+regroup true true tail rows sum false accounts clear = and-false (tail && (rows && sum)) false refl
+regroup true true false false sum true accounts clear = refl
+regroup true true true false sum true accounts clear = refl
+regroup true true false true sum true accounts clear = sym (and-false (accounts && sum) false refl)
+regroup true true true true sum true true clear = refl
+regroup true true true true sum true false clear = and-false sum false refl
+
+module _ (limit : ℕ) (s : Arbiter) where
+  abbrev n : ℕ
+  n = s .table .count
+
+  pub sound-test : sound limit s
+      ≡ (inRange 1 maxDenominator (s .table .denominator)
+      && (inRange 1 limit n
+      && (leb (s .slot .0) maxSlot
+      && (placesHold (s .table .denominator) n (s .table .requestors) (s .accounts)
+      && (every requestorClear (drop n (s .table .requestors)) && every accountClear (drop n (s .accounts)))))))
+  unfolding sound placesHold
+  sound-test =
+      rw (table-test limit (s .table)) (regroup
+      (inRange 1 maxDenominator (s .table .denominator)) (inRange 1 limit n)
+      (every requestorClear (drop n (s .table .requestors)))
+      (isFaultless (eachPlace (rowVerdict (s .table .denominator)) 0 (requestorsOf (s .table))))
+      (leb (total rate (requestorsOf (s .table))) (s .table .denominator))
+      (leb (s .slot .0) maxSlot) (accountsHold n (s .table .requestors) (s .accounts)) (every accountClear (drop n (s .accounts))))
+
+-- ---- the tests of words, one after the other: what each way out comes to
+
+module _ (words : List ℕ) where
+  abbrev room : ℕ
+  room = roomOf words
+
+  abbrev count : ℕ
+  count = getD words 1 0
+
+  abbrev verdict : Bool
+  verdict = sound room (stateOf words)
+
+  -- D is within its limits
+  abbrev D-holds : Type 0
+  D-holds = inRange 1 maxDenominator (getD words 0 0) ≡ true
+
+  pub d-out : inRange 1 maxDenominator (getD words 0 0) ≡ false → false ≡ verdict
+  unfolding wordsState
+  d-out e = sym (sound-test room (stateOf words) ∙ rw e)
+
+  pub n-none : D-holds → count < 1 → false ≡ verdict
+  unfolding wordsState
+  n-none d h = sym (sound-test room (stateOf words) ∙ rw (d, lt-leb 1 count h))
+
+  pub n-over : D-holds → room < count → false ≡ verdict
+  unfolding wordsState
+  n-over d h =
+      let out : inRange 1 room count ≡ false = and-false (leb 1 count) (leb count room) (lt-leb count room h) in
+      sym (sound-test room (stateOf words) ∙ rw (d, out))
+
+  pub slot-over : D-holds → inRange 1 room count ≡ true → maxSlot < getD words 2 0 → false ≡ verdict
+  unfolding wordsState
+  slot-over d n h = sym (sound-test room (stateOf words) ∙ rw (d, n, lt-leb (getD words 2 0) maxSlot h))
+
+  abbrev walk : Bool
+  walk = placesHold (getD words 0 0) count (stateOf words .table .requestors) (stateOf words .accounts)
+
+  pub places-out : D-holds → inRange 1 room count ≡ true → getD words 2 0 ≤ maxSlot → walk ≡ false → false ≡ verdict
+  unfolding wordsState
+  places-out d n h e = sym (sound-test room (stateOf words) ∙ rw (d, n, le-leb (getD words 2 0) maxSlot h, e))
+
+  -- only the words past place N−1 are left to tell
+  pub rest-tells : D-holds → inRange 1 room count ≡ true → getD words 2 0 ≤ maxSlot → walk ≡ true → length words ≡ wordCount room
+      → every isZero (drop (placeStart count) words) ≡ verdict
+  unfolding wordsState
+  rest-tells d n h e long =
+      let few = in-range-true 1 room count n .1 in
+      clear-from room count words long few ∙ sym (sound-test room (stateOf words) ∙ rw (d, n, le-leb (getD words 2 0) maxSlot h, e))

@@ -1,0 +1,2 @@
+-- What a start comes to.
+pub mod Starts

@@ -1,0 +1,3 @@
+-- The laws of a walk over the places of words.
+pub mod Passing
+pub mod Walked

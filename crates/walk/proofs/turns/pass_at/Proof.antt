@@ -1,0 +1,39 @@
+use mathlib.Core.Path.{_∙_}
+use borrow.Author.Needs.{needs}
+use Rattle.walk.proofs.turns.pass_at.Statement.{statement}
+use Rattle.walk.proofs.turns.pass_at.Tie as tie
+use Rattle.walk.proofs.turns.pass_at.Reads as reads
+use Rattle.walk.proofs.turns.pass_at.Lts as lts
+use Rattle.layout.proofs.words.account.Reads as account-reads
+use Rattle.layout.proofs.words.put_account.Reads as put-account-reads
+use Rattle.layout.proofs.words.requestor.Reads as requestor-reads
+use Rattle.rule.proofs.rule.pass.Reads as pass-reads
+
+requestor-requires : tie.Need-requestor-requires
+requestor-requires c κs = search needs
+
+account-requires : tie.Need-account-requires
+account-requires c κs = search needs
+
+pass-requires : tie.Need-pass-requires
+pass-requires c κs = rw (c .account .ensures, c .before .before .requestor .ensures) (c .before .before .before .before .before .pre .sum)
+
+put-account-requires : tie.Need-put-account-requires
+put-account-requires c κs = search needs
+
+same-length : tie.Need-same-length
+same-length c = search needs
+
+returns : tie.Need-returns
+returns c = c .before .before .put-account .ensures ∙ rw (c .before .before .before .before .pass .ensures, c .before .before .before .before .before .account .ensures, c .before .before .before .before .before .before .before .requestor .ensures)
+
+pub pass-at-spec : {M : Type 1} → statement M
+pass-at-spec =
+    tie.close
+    (tie.spec
+    requestor-requires
+    account-requires
+    pass-requires
+    put-account-requires
+    same-length
+    returns)

@@ -1,0 +1,251 @@
+//! What is measured: each call made by the product and by the plain Rust model, with the same room, in the same state and on the same
+//! input. Both make the same checks.
+
+#[allow(dead_code, unused_imports)]
+#[path = "../../tests/beside_model/model/mod.rs"]
+mod model;
+mod slice;
+
+use std::hint::black_box;
+use std::time::{Duration, Instant};
+
+use justrave::{Arbiter, Slots, Transfers};
+use model::{Requestor, State, Table, MAX_BACKLOG, MAX_LOG};
+
+/// Calls in one measurement of a short call: a clock is too coarse for one.
+const BATCH: usize = 2_000;
+
+/// So many calls in a row, or a run of so many slots; and how long they took.
+type Calls = Box<dyn Fn(usize) -> Duration>;
+
+pub struct Case {
+    pub call: String,
+    /// N.
+    pub places: usize,
+    pub room: usize,
+    /// Calls of one measurement, or slots of its one run.
+    pub many: usize,
+    pub product: Calls,
+    pub model: Calls,
+}
+
+impl Case {
+    /// The lines above a table, in the form of the documentation's.
+    pub fn print_head() {
+        println!("| call                              |  N | room | product |   model | ratio |");
+        println!("|-----------------------------------|---:|-----:|--------:|--------:|------:|");
+    }
+
+    /// A line of the table: what the product took for a call and what the model did.
+    pub fn print(&self, product: f64, model: f64) {
+        let Case { call, places, room, .. } = self;
+        println!("| {call:<33} | {places:>2} | {room:>4} | {product:>7.1} | {model:>7.1} | {:>5.2} |", product / model);
+    }
+}
+
+/// Which places have transfers waiting.
+#[derive(Clone, Copy)]
+enum Load {
+    Idle,
+    Waiting,
+    /// Every second place, the last one among them.
+    Mixed,
+}
+
+impl Load {
+    fn name(self) -> &'static str {
+        match self {
+            Load::Idle => "all idle",
+            Load::Waiting => "all waiting",
+            Load::Mixed => "every second waiting",
+        }
+    }
+
+    fn waits(self, place: usize) -> bool {
+        match self {
+            Load::Idle => false,
+            Load::Waiting => true,
+            Load::Mixed => place % 2 == 1,
+        }
+    }
+}
+
+/// N = 1, 4 and 16, first with room for 16 places, where the model looks at 16 too, and then with room for exactly N, where it looks at
+/// these. Last post and slot with room for exactly N once more, beside a model that is not compiled for this number.
+pub fn all() -> Vec<Case> {
+    let rooms = [in_room::<16>(1), in_room::<16>(4), in_room::<16>(16), in_room::<1>(1), in_room::<4>(4)];
+    let slices = [beside_slice::<1>(), beside_slice::<4>(), beside_slice::<16>()];
+    rooms.into_iter().chain(slices).flatten().collect()
+}
+
+fn in_room<const ROOM: usize>(places: usize) -> Vec<Case> {
+    let mut cases = vec![slots::<ROOM>(places, Load::Idle), slots::<ROOM>(places, Load::Waiting)];
+    if places > 1 {
+        cases.push(slots::<ROOM>(places, Load::Mixed));
+    }
+    cases.push(posts::<ROOM>(places));
+    cases.push(runs::<ROOM>(places, Load::Idle));
+    cases.push(runs::<ROOM>(places, Load::Waiting));
+    cases.push(starts_from_bytes::<ROOM>(places));
+    cases.push(starts_from_numbers::<ROOM>(places));
+    cases
+}
+
+/// The same calls of the product as with room for exactly N, and the model's on a slice of places.
+fn beside_slice<const N: usize>() -> Vec<Case> {
+    let loads = [Load::Idle, Load::Waiting, Load::Mixed];
+    let mut cases: Vec<Case> = loads.into_iter().take(if N > 1 { 3 } else { 2 }).map(slot_beside_slice::<N>).collect();
+    let post = posts::<N>(N);
+    let model = Box::new(|many| {
+        let mut line = slice::Line::of(&model::<N>(N, Load::Idle));
+        timed(many, || black_box(&mut line).post(N - 1, 1).expect("the post is accepted"))
+    });
+    cases.push(Case { call: format!("{}; slice", post.call), model, ..post });
+    cases
+}
+
+fn slot_beside_slice<const N: usize>(load: Load) -> Case {
+    let (mut line, mut also) = (slice::Line::of(&model::<N>(N, load)), model::<N>(N, load));
+    for _ in 0..300 {
+        assert_eq!(line.slot(), also.slot(), "the two models differ");
+    }
+    let slot = slots::<N>(N, load);
+    let model = Box::new(move |many| {
+        let mut line = slice::Line::of(&model::<N>(N, load));
+        timed(many, || black_box(&mut line).slot().expect("the slot is accepted"))
+    });
+    Case { call: format!("{}; slice", slot.call), model, ..slot }
+}
+
+/// Places that share the line out evenly and whole.
+fn table<const ROOM: usize>(places: usize) -> Table<ROOM> {
+    let row = Requestor { rate: 64 / places as u64, burst: 128, need: 1, within: 1 << 30 };
+    let mut table = Table { denominator: 64, count: places as u64, ..Table::default() };
+    table.requestors[..places].fill(row);
+    table
+}
+
+/// The product's state, each place that waits with a full backlog.
+fn product<const ROOM: usize>(places: usize, load: Load) -> Arbiter<ROOM> {
+    let bytes = table::<ROOM>(places).bytes();
+    let mut line = Arbiter::start_in_room(&bytes, Slots(0)).expect("the table is accepted");
+    for place in (0..places).filter(|&place| load.waits(place)) {
+        line.post(place, Transfers(MAX_BACKLOG)).expect("the post is accepted");
+    }
+    line
+}
+
+/// The model in the same state.
+fn model<const ROOM: usize>(places: usize, load: Load) -> State<ROOM> {
+    let mut line = State::start_numbers(&table(places), 0).expect("the table is accepted");
+    for place in (0..places).filter(|&place| load.waits(place)) {
+        line.post(place, MAX_BACKLOG).expect("the post is accepted");
+    }
+    line
+}
+
+fn slots<const ROOM: usize>(places: usize, load: Load) -> Case {
+    Case {
+        call: format!("slot, {}", load.name()),
+        places,
+        room: ROOM,
+        many: BATCH,
+        product: Box::new(move |many| {
+            let mut line = product::<ROOM>(places, load);
+            timed(many, || black_box(&mut line).slot().expect("the slot is accepted"))
+        }),
+        model: Box::new(move |many| {
+            let mut line = model::<ROOM>(places, load);
+            timed(many, || black_box(&mut line).slot().expect("the slot is accepted"))
+        }),
+    }
+}
+
+/// One transfer after the other to the last place.
+fn posts<const ROOM: usize>(places: usize) -> Case {
+    let place = places - 1;
+    Case {
+        call: "post".to_string(),
+        places,
+        room: ROOM,
+        many: BATCH,
+        product: Box::new(move |many| {
+            let mut line = product::<ROOM>(places, Load::Idle);
+            timed(many, || black_box(&mut line).post(place, Transfers(1)).expect("the post is accepted"))
+        }),
+        model: Box::new(move |many| {
+            let mut line = model::<ROOM>(places, Load::Idle);
+            timed(many, || black_box(&mut line).post(place, 1).expect("the post is accepted"))
+        }),
+    }
+}
+
+/// One run; its slots are what is counted.
+fn runs<const ROOM: usize>(places: usize, load: Load) -> Case {
+    Case {
+        call: format!("slot of a run, {}", load.name()),
+        places,
+        room: ROOM,
+        many: MAX_LOG,
+        product: Box::new(move |many| {
+            let (mut line, mut log) = (product::<ROOM>(places, load), vec![0xA5; many]);
+            timed(1, || black_box(&mut line).run(black_box(&mut log)).expect("the run is accepted"))
+        }),
+        model: Box::new(move |many| {
+            let (mut line, mut log) = (model::<ROOM>(places, load), vec![0xA5; many]);
+            timed(1, || black_box(&mut line).run(black_box(&mut log)).expect("the run is accepted"))
+        }),
+    }
+}
+
+/// A start reads the table: bytes, limits, rate sum and finish figures.
+fn starts_from_bytes<const ROOM: usize>(places: usize) -> Case {
+    let bytes = table::<ROOM>(places).bytes();
+    let also = bytes.clone();
+    Case {
+        call: "start from bytes".to_string(),
+        places,
+        room: ROOM,
+        many: BATCH,
+        product: Box::new(move |many| {
+            timed(many, || Arbiter::<ROOM>::start_in_room(black_box(&bytes), Slots(0)).expect("the table is accepted"))
+        }),
+        model: Box::new(move |many| {
+            timed(many, || State::<ROOM>::start(black_box(&also), 0).expect("the table is accepted"))
+        }),
+    }
+}
+
+/// The product's numbers have 32 bits, the model's 64.
+fn starts_from_numbers<const ROOM: usize>(places: usize) -> Case {
+    let rows = table::<ROOM>(places);
+    let row = |row: &Requestor| justrave::Requestor {
+        rate: row.rate as u32,
+        burst: row.burst as u32,
+        need: Transfers(row.need),
+        within: Slots(row.within),
+    };
+    let given: Vec<_> = rows.used().iter().map(row).collect();
+    let given = justrave::Table::<ROOM>::in_room(rows.denominator as u32, &given);
+    Case {
+        call: "start from numbers".to_string(),
+        places,
+        room: ROOM,
+        many: BATCH,
+        product: Box::new(move |many| {
+            timed(many, || Arbiter::start_table(black_box(&given), Slots(0)).expect("the table is accepted"))
+        }),
+        model: Box::new(move |many| {
+            timed(many, || State::start_numbers(black_box(&rows), 0).expect("the table is accepted"))
+        }),
+    }
+}
+
+/// How long so many calls take.
+fn timed<Answer>(many: usize, mut call: impl FnMut() -> Answer) -> Duration {
+    let start = Instant::now();
+    for _ in 0..many {
+        black_box(call());
+    }
+    start.elapsed()
+}

@@ -1,0 +1,69 @@
+//! What the wrapper adds of its own: the sizes of its types in each room, and words that are kept and given back.
+
+use justrave::{sys, Arbiter, Requestor, Slots, Standing, Table, Transfers};
+
+fn sizes<const ROOM: usize>() {
+    // SAFETY: the function touches no memory.
+    assert_eq!(Arbiter::<ROOM>::STATE_WORDS, unsafe { sys::justrave_state_words(ROOM) });
+    assert_eq!(size_of::<Arbiter<ROOM>>(), size_of::<u64>() * Arbiter::<ROOM>::STATE_WORDS);
+    assert_eq!(Table::<ROOM>::NUMBERS, 2 + 4 * ROOM);
+}
+
+#[test]
+fn sizes_in_every_room() {
+    sizes::<1>();
+    sizes::<2>();
+    sizes::<3>();
+    sizes::<4>();
+    sizes::<5>();
+    sizes::<6>();
+    sizes::<7>();
+    sizes::<8>();
+    sizes::<9>();
+    sizes::<10>();
+    sizes::<11>();
+    sizes::<12>();
+    sizes::<13>();
+    sizes::<14>();
+    sizes::<15>();
+    sizes::<16>();
+    assert_eq!(Table::PLACES, 16);
+    assert_eq!(Arbiter::TABLE_ROOM, 330);
+}
+
+#[test]
+fn words_of_another_length_are_no_arbiter() {
+    for length in 0..=106 {
+        let words = vec![7; length];
+        assert_eq!(Arbiter::<1>::from_words(&words).is_some(), length == 9);
+        assert_eq!(Arbiter::<5>::from_words(&words).is_some(), length == 33);
+        assert_eq!(<Arbiter>::from_words(&words).is_some(), length == 99);
+    }
+}
+
+/// Every word is kept, in its order, and an arbiter that is made of them goes on where the other one stood.
+#[test]
+fn words_are_given_back() {
+    let any: Vec<u64> = (0..33).map(|word| word * 0x0101_0101_0101_0101).collect();
+    assert_eq!(Arbiter::<5>::from_words(&any).expect("33 words").words(), any);
+
+    let pump = Requestor { rate: 1, burst: 8, need: Transfers(1), within: Slots(4) };
+    let probe = Requestor { rate: 1, burst: 4, need: Transfers(1), within: Slots(7) };
+    let mut line = Arbiter::start_table(&Table::<5>::in_room(4, &[pump, probe]), Slots(70)).expect("it is accepted");
+    line.post(1, Transfers(3)).expect("it is accepted");
+    line.slot().expect("it is accepted");
+    let mut again = Arbiter::<5>::from_words(line.words()).expect("33 words");
+    assert_eq!(again, line);
+    assert_eq!(again.standing(), Ok(Standing { slot: Slots(71), places: 2 }));
+    assert_eq!((again.slot(), again), (line.slot(), line));
+}
+
+/// What the room is left out of: code that was written for 16 places names none.
+#[test]
+fn where_nothing_is_said_there_is_room_for_16() {
+    let table = Table::of(4, &[Requestor { rate: 1, burst: 8, need: Transfers(1), within: Slots(4) }]);
+    let from_numbers = Arbiter::start_table(&table, Slots(0)).expect("it is accepted");
+    let from_bytes = Arbiter::start(&[4, 1, 1, 8, 1, 4], Slots(0)).expect("it is accepted");
+    assert_eq!(from_numbers, from_bytes);
+    assert_eq!(from_bytes.words().len(), 99);
+}
