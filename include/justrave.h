@@ -32,8 +32,8 @@
  * The stack. The library follows the System V calling convention of x86-64. It finds the stack aligned to 16 bytes, as every caller
  * leaves it, and keeps it so; and it uses the red zone, the 128 bytes below the stack pointer. An interrupt handler that runs on the same
  * stack must skip these 128 bytes before it writes, as the handlers of a process's signals do. How many bytes of stack an accepted
- * call takes, its return address and the red zone included, measured with 16 places by tests/stack: a start from bytes 1,424, one from
- * numbers 1,248, a write 1,088, figures 640, a run and a lead 128, a slot 112, a post, an account and a standing 96. JUSTRAVE_STACK is
+ * call takes, its return address and the red zone included, measured with 16 places by tests/stack: a start from bytes 1,408, one from
+ * numbers 1,232, a write 1,088, figures 640, a run and a lead 128, a slot 112, a post, an account and a standing 96. JUSTRAVE_STACK is
  * more than each.
  */
 #ifndef JUSTRAVE_H

@@ -1,4 +1,3 @@
--- Laws on the table that words are: its rows and sums, the walks of the checks over it, and the ways out of the figures call.
+-- Laws on the table that words are: its rows and sums, and the walks of the checks over it.
 pub mod Rows
 pub mod Walks
-pub mod Answers

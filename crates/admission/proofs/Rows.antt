@@ -9,11 +9,11 @@ use native.Mathlib.Omega.{arith}
 use lib.ListN.{length, take, getD}
 use Rattle.lists.specs.Sums.{total}
 use Rattle.lists.proofs.Sums.{total-take-pred}
-use Rattle.arbiter.specs.declared.table.Requestor.{Requestor}
-use Rattle.arbiter.specs.Limits.{maxBurst, maxNeed, maxDenominator}
-use Rattle.arbiter.specs.Table.{noRequestor, requestorAt, requestorsOf}
-use Rattle.arbiter.specs.Figures.{burstsAbove, ratesAbove, finishOf, finish}
-use Rattle.arbiter.proofs.Above.{above}
+use Rattle.terms.specs.declared.place.Requestor.{Requestor}
+use Rattle.terms.specs.Limits.{maxBurst, maxNeed, maxDenominator}
+use Rattle.terms.specs.Table.{noRequestor, requestorAt, requestorsOf}
+use Rattle.terms.specs.Figures.{burstsAbove, ratesAbove, finishOf, finish}
+use Rattle.terms.proofs.Above.{above}
 use Rattle.layout.specs.Words.{wordCount, roomOf, rightLength, rowIn, wordsState}
 use Rattle.layout.proofs.Items.{length-places, at-place}
 use Rattle.layout.proofs.RoundTrip.{right}

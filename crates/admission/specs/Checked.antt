@@ -3,11 +3,10 @@ use mathlib.Core.Path.{_≡_}
 use mathlib.Core.Bool.{true}
 use mathlib.Core.List.{List}
 use Prim.Native.Nat.{ℕ, _*_, _≤_}
-use Rattle.arbiter.specs.declared.table.Requestor.{Requestor}
-use Rattle.arbiter.specs.declared.table.Table.{Table}
-use Rattle.arbiter.specs.Limits.{maxDenominator, maxBurst, maxNeed}
-use Rattle.arbiter.specs.Refusals.{Verdict, faultless, then}
-use Rattle.arbiter.specs.Table.{denominatorBounds, countBounds, heldTo, requestorsOf, rowVerdict, eachPlace, tableVerdict}
+use Rattle.terms.specs.declared.place.Requestor.{Requestor}
+use Rattle.terms.specs.Table.{Table, denominatorBounds, countBounds, heldTo, requestorsOf, rowVerdict, eachPlace, tableVerdict}
+use Rattle.terms.specs.Limits.{maxDenominator, maxBurst, maxNeed}
+use Rattle.terms.specs.Refusals.{Verdict, faultless, then}
 use Rattle.layout.specs.Words.{roomOf, rightLength, stateOf}
 
 abbrev pub tableIn : List ℕ → Table

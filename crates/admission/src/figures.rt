@@ -1,15 +1,15 @@
 // The wait and the finish figure of a place, in slots, of words that passed checks 1 to 6.
 use crate::sums::bursts_above;
 use crate::sums::rates_above;
-use arbiter::units::Slots;
-use arbiter::units::Transfers;
 use layout::words::denominator;
 use layout::words::rate;
+use terms::units::Slots;
+use terms::units::Transfers;
 ghost use mathlib.Core.Path.{_≡_};
 ghost use Prim.Native.Nat.{ℕ, _+_, _≤_, _<_, _^_};
-ghost use Rattle.arbiter.specs.Limits.{maxPlaces, maxNeed};
-ghost use Rattle.arbiter.specs.Table.{requestorsOf};
-ghost use Rattle.arbiter.specs.Figures.{roundedUp, wait, finishOf, finish};
+ghost use Rattle.terms.specs.Limits.{maxPlaces, maxNeed};
+ghost use Rattle.terms.specs.Table.{requestorsOf};
+ghost use Rattle.terms.specs.Figures.{roundedUp, wait, finishOf, finish};
 ghost use Rattle.admission.specs.Checked.{tableIn, Checked, Parts};
 
 // a / b, rounded up.
@@ -22,7 +22,7 @@ fn rounded_up(a: u64, b: u64) -> u64
 }
 
 // The reported wait of place p: B / R, rounded up.
-pub(crate) fn wait(words: &[u64], p: usize) -> Slots
+pub fn wait(words: &[u64], p: usize) -> Slots
     requires { ⌜ Checked maxPlaces (now words) × (p < tableIn (now words) .count) ⌝ }
     ensures figure { λ r. ⌜ r .0 ≡ wait (tableIn (now (words .entry)) .denominator) (requestorsOf (tableIn (now (words .entry)))) p ⌝ }
     ensures small { λ r. ⌜ r .0 < 2 ^ 62 ⌝ }
@@ -32,7 +32,7 @@ pub(crate) fn wait(words: &[u64], p: usize) -> Slots
 }
 
 // The finish figure of its parts, B, R, the place's own rate n and j: the wait, and j * D / n rounded up.
-pub(crate) fn finish_of(d: u64, bursts: u64, left: u64, n: u64, j: Transfers) -> Slots
+pub fn finish_of(d: u64, bursts: u64, left: u64, n: u64, j: Transfers) -> Slots
     requires { ⌜ Parts maxPlaces d bursts left n (j .0) ⌝ }
     ensures { λ r. ⌜ r .0 ≡ finishOf d bursts left n (j .0) ⌝ }
 {
@@ -42,7 +42,7 @@ pub(crate) fn finish_of(d: u64, bursts: u64, left: u64, n: u64, j: Transfers) ->
 }
 
 // The finish figure of place p for j transfers.
-pub(crate) fn finish(words: &[u64], p: usize, j: Transfers) -> Slots
+pub fn finish(words: &[u64], p: usize, j: Transfers) -> Slots
     requires { ⌜ Checked maxPlaces (now words) × (p < tableIn (now words) .count) × (j .0 ≤ maxNeed) ⌝ }
     ensures { λ r. ⌜ r .0 ≡ finish (tableIn (now (words .entry)) .denominator) (requestorsOf (tableIn (now (words .entry)))) p (j .0) ⌝ }
 {

@@ -5,12 +5,12 @@ use layout::words::rate;
 ghost use mathlib.Core.Path.{_≡_};
 ghost use Prim.Native.Nat.{_≤_, _<_, _^_};
 ghost use lib.ListN.{length};
-ghost use Rattle.arbiter.specs.Figures.{burstsAbove, ratesAbove};
+ghost use Rattle.terms.specs.Figures.{burstsAbove, ratesAbove};
 ghost use Rattle.layout.specs.Words.{wordCount};
 ghost use Rattle.admission.specs.Checked.{rowsIn};
 
 // The sum of the bursts above p: B of document 01.
-pub(crate) fn bursts_above(words: &[u64], p: usize) -> u64
+pub fn bursts_above(words: &[u64], p: usize) -> u64
     requires { ⌜ (wordCount p ≤ length (now words)) × (burstsAbove p (rowsIn (now words)) < 2 ^ 64) ⌝ }
     ensures { λ r. ⌜ r ≡ burstsAbove p (rowsIn (now (words .entry))) ⌝ }
 {
@@ -23,7 +23,7 @@ pub(crate) fn bursts_above(words: &[u64], p: usize) -> u64
 }
 
 // The sum of the rates above p; R of document 01 is D less this.
-pub(crate) fn rates_above(words: &[u64], p: usize) -> u64
+pub fn rates_above(words: &[u64], p: usize) -> u64
     requires { ⌜ (wordCount p ≤ length (now words)) × (ratesAbove p (rowsIn (now words)) < 2 ^ 64) ⌝ }
     ensures { λ r. ⌜ r ≡ ratesAbove p (rowsIn (now (words .entry))) ⌝ }
 {

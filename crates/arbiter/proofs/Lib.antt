@@ -1,7 +1,4 @@
--- Laws that belong to no one function: refusals, checks, walks over places, sums above a place, and sound states.
-pub mod Causes
-pub mod Checks
-pub mod Places
-pub mod Above
-pub mod Sound
+-- Laws that belong to no one function: the walk of the checks over the rows, and a table and a state by value.
+pub mod Walks
+pub mod ByValue
 pub mod Shapes

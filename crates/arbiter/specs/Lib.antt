@@ -1,12 +1,2 @@
--- The arbiter's values and checks, in document 01's order: its limits, the table and checks 1 to 6, the figures and check 7,
--- the state and test 23, start, the figures as a call, and the length of an input. Refusals stands ahead of the checks because each
--- names one.
-pub mod Limits
-pub mod Refusals
-pub mod Answers
-pub mod Table
-pub mod Figures
-pub mod State
-pub mod Start
-pub mod Asked
-pub mod Input
+-- What a table and a state that are handed in by value are in document 01's values.
+pub mod ByValue

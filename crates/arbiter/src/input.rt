@@ -1,11 +1,11 @@
 // How long a log or the program's input may be.
-use crate::refusals::Cause;
-use crate::refusals::InputRefusal;
-use crate::refusals::Verdict;
 use crate::state::Arbiter;
+use terms::refusals::Cause;
+use terms::refusals::InputRefusal;
+use terms::refusals::Verdict;
 ghost use mathlib.Core.Path.{_≡_};
-ghost use Rattle.arbiter.specs.Refusals.{verdictOf};
-ghost use Rattle.arbiter.specs.Input.{inputVerdict};
+ghost use Rattle.terms.specs.Refusals.{verdictOf};
+ghost use Rattle.terms.specs.Input.{inputVerdict};
 
 // Check 13.
 pub fn check_input(bytes: usize) -> Verdict

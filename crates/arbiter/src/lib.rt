@@ -1,14 +1,11 @@
-// The arbiter's values: units, limits, refusals, the requestor table with its checks and figures, the state with test 23,
-// and start. What calls then do to a state stands in the crate calls.
+// The arbiter's own type: its limits, its words, admission and start. A table is handed in as numbers and laid into words, and the checks
+// know words only. What calls then do to a state stands in the crate calls.
 
-pub mod admission;
-pub mod asked;
+pub mod admit;
 pub mod bounds;
-mod figures;
+mod checks;
 pub mod input;
-pub mod refusals;
+pub mod rows;
 pub mod start;
 pub mod state;
-pub mod sums;
 pub mod table;
-pub mod units;

@@ -1,65 +1,53 @@
-// The parts of a start: what it answers, and the states it hands back. `Arbiter::start` stands with the type.
-use crate::refusals::Cause;
-use crate::state::Account;
+// A start, in place, of the table that was laid into words: its checks, and then the words are opened, or all become 0.
+use crate::admit::admit_right;
 use crate::state::Arbiter;
-use crate::state::no_account;
-use crate::table::Table;
-use crate::table::bare_table;
-use crate::units::Slots;
-use crate::units::Transfers;
+use layout::words::length_is_right;
+use opening::open;
+use opening::turn_down;
+use terms::answers::StartAnswer;
+use terms::refusals::Cause;
+use terms::refusals::InputRefusal;
+use terms::refusals::StateRefusal;
+use terms::refusals::Verdict;
+use terms::units::Slots;
 ghost use mathlib.Core.Path.{_≡_};
-ghost use mathlib.Core.List.{map};
-ghost use Rattle.arbiter.specs.Limits.{maxPlaces};
-ghost use Rattle.arbiter.specs.Refusals.{refusalOf};
-ghost use Rattle.arbiter.specs.Answers.{refused};
-ghost use Rattle.arbiter.specs.Start.{fresh, noState, startResultOf};
-
-pub enum StartAnswer {
-    Started,
-    Refused(Cause),
-}
+ghost use mathlib.Core.Bool.{true, false};
+ghost use Rattle.terms.specs.Limits.{maxPlaces};
+ghost use Rattle.terms.specs.Refusals.{refusal};
+ghost use Rattle.terms.specs.Answers.{refused, startAnswerOf};
+ghost use Rattle.terms.specs.Start.{start};
+ghost use Rattle.layout.specs.Words.{roomOf, rightLength, stateOf};
 
 pub struct StartResult {
     pub state: Arbiter,
     pub answer: StartAnswer,
 }
 
-// Each credit is the burst and each backlog is 0. In a table that passed check 2 the burst past place N-1 is 0 too.
-pub(crate) fn opening_accounts(t: Table) -> [Account; Arbiter::MAX_PLACES]
-    ensures { λ r. ⌜ r ≡ map fresh (t .requestors) ⌝ }
+// A start of the table that the words are, where their length is a state's. Refused: 1 to 7, 12.
+pub(crate) fn start_right(words: &mut [u64], first: Slots) -> StartAnswer
+    requires { ⌜ rightLength maxPlaces (now words) ≡ true ⌝ }
+    ensures { λ a. ⌜ record { state = stateOf (now (words .exit)); answer = startAnswerOf a } ≡ start (roomOf (now (words .entry))) (stateOf (now (words .entry)) .table) (first .0) ⌝ }
 {
-    let none = no_account();
-    let mut accounts = [none; Arbiter::MAX_PLACES];
-    let mut p: usize = 0;
-    while p < Arbiter::MAX_PLACES {
-        let r = t.requestors[p];
-        accounts[p] = Account {
-            credit: r.burst,
-            backlog: Transfers(0),
-        };
-        p = p + 1;
-    }
-    accounts
-}
-
-// The state whose every field is 0.
-pub fn no_state() -> Arbiter
-    ensures { λ r. ⌜ r ≡ noState maxPlaces ⌝ }
-{
-    let none = no_account();
-    Arbiter {
-        table: bare_table(0, 0),
-        slot: Slots(0),
-        accounts: [none; Arbiter::MAX_PLACES],
+    let v = admit_right(words);
+    match v {
+        Verdict::Fault(c) => turn_down(words, c),
+        Verdict::Faultless => {
+            if Arbiter::MAX_SLOT < first.0 {
+                return turn_down(words, Cause::Input(InputRefusal::FirstSlot));
+            }
+            open(words, first);
+            StartAnswer::Started
+        }
     }
 }
 
-// A state whose every field is 0, and why.
-pub(crate) fn refuse(why: Cause) -> StartResult
-    ensures { λ r. ⌜ startResultOf r ≡ record { state = noState maxPlaces; answer = refused (refusalOf why) } ⌝ }
+// The same of any words: those of another length than a state's stay what they were, and get 23.
+pub fn start_laid(words: &mut [u64], first: Slots) -> StartAnswer
+    ensures begun { λ a. ⌜ (rightLength maxPlaces (now (words .entry)) ≡ true → record { state = stateOf (now (words .exit)); answer = startAnswerOf a } ≡ start (roomOf (now (words .entry))) (stateOf (now (words .entry)) .table) (first .0)) ⌝ }
+    ensures wrong { λ a. ⌜ (rightLength maxPlaces (now (words .entry)) ≡ false → (now (words .exit) ≡ now (words .entry)) × (startAnswerOf a ≡ refused (refusal 23))) ⌝ }
 {
-    StartResult {
-        state: no_state(),
-        answer: StartAnswer::Refused(why),
+    if length_is_right(words, Arbiter::MAX_PLACES) {
+        return start_right(words, first);
     }
+    StartAnswer::Refused(Cause::State(StateRefusal::Unsound))
 }

@@ -1,29 +1,17 @@
-// The requestor table as numbers, and checks 1 to 6.
-use crate::bounds::Bounds;
-use crate::refusals::Cause;
-use crate::refusals::InputRefusal;
-use crate::refusals::Verdict;
-use crate::refusals::first_fault;
+// The requestor table as numbers, by value: how it is laid into words, and how it is handed back from them.
 use crate::state::Arbiter;
-use crate::sums::rates_above;
-use crate::units::Slots;
-use crate::units::Transfers;
+use layout::words::count;
+use layout::words::denominator;
+use layout::words::put_head;
+use layout::words::put_row;
+use layout::words::requestor;
+use terms::place::Requestor;
+use terms::place::no_requestor;
 ghost use mathlib.Core.Path.{_≡_};
-ghost use mathlib.Core.List.{[]};
-ghost use Prim.Native.Nat.{_≤_, _<_, _^_};
-ghost use lib.ListN.{drop};
-ghost use Rattle.lists.specs.Sums.{total, every};
-ghost use Rattle.arbiter.specs.Limits.{maxPlaces};
-ghost use Rattle.arbiter.specs.Refusals.{verdictOf};
-ghost use Rattle.arbiter.specs.Table.{rate, noRequestor, tableOf, requestorClear, tailVerdict, rateSumVerdict, requestorsOf, rowVerdict, eachPlace, tableVerdict};
-
-// One row of the table: the rate n, the burst b, and the need of j transfers within L slots.
-pub struct Requestor {
-    pub rate: u64,
-    pub burst: u64,
-    pub need: Transfers,
-    pub within: Slots,
-}
+ghost use Rattle.terms.specs.Limits.{maxPlaces};
+ghost use Rattle.terms.specs.Start.{noState};
+ghost use Rattle.layout.specs.Words.{stateOf, withTable};
+ghost use Rattle.arbiter.specs.ByValue.{held, given};
 
 // D, N and the rows. Those past place N-1 must be 0: check 2.
 pub struct Table {
@@ -32,146 +20,36 @@ pub struct Table {
     pub requestors: [Requestor; Arbiter::MAX_PLACES],
 }
 
-// A row past place N-1: every field is 0.
-pub fn no_requestor() -> Requestor
-    ensures { λ r. ⌜ r ≡ noRequestor ⌝ }
+// The words of the state that has this table and is 0 beside it. N is laid as it is: check 2 comes later.
+pub fn lay_table(t: Table) -> [u64; Arbiter::WORDS]
+    ensures { λ words. ⌜ stateOf words ≡ withTable (noState maxPlaces) (given t) ⌝ }
 {
-    Requestor {
-        rate: 0,
-        burst: 0,
-        need: Transfers(0),
-        within: Slots(0),
-    }
-}
-
-// A table of D and N whose rows are all 0.
-pub fn bare_table(d: u64, n: usize) -> Table
-    ensures { λ t. ⌜ t ≡ tableOf maxPlaces d n [] ⌝ }
-{
-    let none = no_requestor();
-    let rows = [none; Arbiter::MAX_PLACES];
-    Table {
-        denominator: d,
-        count: n,
-        requestors: rows,
-    }
-}
-
-pub fn is_clear(r: Requestor) -> bool
-    ensures { λ b. ⌜ b ≡ requestorClear r ⌝ }
-{
-    let need = r.need;
-    let within = r.within;
-    if r.rate != 0 {
-        return false;
-    }
-    if r.burst != 0 {
-        return false;
-    }
-    if need.0 != 0 {
-        return false;
-    }
-    within.0 == 0
-}
-
-// Whether every row past place N-1 is 0.
-fn rest_is_clear(t: Table) -> bool
-    requires { ⌜ t .count ≤ maxPlaces ⌝ }
-    ensures { λ b. ⌜ b ≡ every requestorClear (drop (t .count) (t .requestors)) ⌝ }
-{
-    let mut p = t.count;
+    let mut words = [0u64; Arbiter::WORDS];
+    put_head(&mut words, t.denominator, t.count);
+    let mut p: usize = 0;
     while p < Arbiter::MAX_PLACES {
         let r = t.requestors[p];
-        if !is_clear(r) {
-            return false;
-        }
+        put_row(&mut words, p, r);
         p = p + 1;
     }
-    true
+    words
 }
 
-// Checks 3, 4 and 5 of the requestor at place p.
-pub fn check_row(d: u64, p: usize, r: Requestor) -> Verdict
-    ensures { λ v. ⌜ verdictOf v ≡ rowVerdict d p r ⌝ }
+// The table of a state.
+pub fn table_of(s: Arbiter) -> Table
+    ensures { λ t. ⌜ given t ≡ held s .table ⌝ }
 {
-    let j = r.need;
-    let l = r.within;
-    let rate = Bounds::of_rate(d, p).hold(r.rate);
-    let burst = Bounds::of_burst(d, p).hold(r.burst);
-    let need = Bounds::of_need(p).hold(j.0);
-    let within = Bounds::of_within(p).hold(l.0);
-    first_fault(rate, first_fault(burst, first_fault(need, within)))
-}
-
-// Checks 3, 4 and 5, place by place.
-fn check_rows(t: Table) -> Verdict
-    requires { ⌜ t .count ≤ maxPlaces ⌝ }
-    ensures { λ v. ⌜ verdictOf v ≡ eachPlace (rowVerdict (t .denominator)) 0 (requestorsOf t) ⌝ }
-{
-    let d = t.denominator;
-    let n = t.count;
+    let words = s.words;
+    let none = no_requestor();
+    let mut rows = [none; Arbiter::MAX_PLACES];
     let mut p: usize = 0;
-    let v = loop {
-        if n <= p {
-            break Verdict::Faultless;
-        }
-        let r = t.requestors[p];
-        let w = check_row(d, p, r);
-        match w {
-            Verdict::Faultless => {
-                p = p + 1;
-            }
-            Verdict::Fault(_) => {
-                break w;
-            }
-        }
-    };
-    v
-}
-
-// The part of check 2 that looks past place N-1.
-fn check_tail(t: Table) -> Verdict
-    requires { ⌜ t .count ≤ maxPlaces ⌝ }
-    ensures { λ v. ⌜ verdictOf v ≡ tailVerdict t ⌝ }
-{
-    if rest_is_clear(t) {
-        return Verdict::Faultless;
+    while p < Arbiter::MAX_PLACES {
+        rows[p] = requestor(&words, p);
+        p = p + 1;
     }
-    Verdict::Fault(Cause::Input(InputRefusal::Count))
-}
-
-// Check 6.
-fn check_rate_sum(t: Table) -> Verdict
-    requires { ⌜ (t .count ≤ maxPlaces) × (total rate (requestorsOf t) < 2 ^ 64) ⌝ }
-    ensures { λ v. ⌜ verdictOf v ≡ rateSumVerdict t ⌝ }
-{
-    let d = t.denominator;
-    let n = t.count;
-    if rates_above(t, n) <= d {
-        return Verdict::Faultless;
-    }
-    Verdict::Fault(Cause::Input(InputRefusal::RateSum))
-}
-
-// Checks 1 to 6. Rates are added up once each of them is known to be at most D.
-pub(crate) fn check_table(t: Table) -> Verdict
-    ensures { λ v. ⌜ verdictOf v ≡ tableVerdict maxPlaces t ⌝ }
-{
-    let d = t.denominator;
-    let n = t.count;
-    let denominator = Bounds::of_denominator().hold(d);
-    let count = Bounds::of_count().hold(n as u64);
-    let limits = first_fault(denominator, count);
-    match limits {
-        Verdict::Fault(_) => limits,
-        Verdict::Faultless => {
-            let tail = check_tail(t);
-            let each = check_rows(t);
-            let rows = first_fault(tail, each);
-            match rows {
-                Verdict::Fault(_) => rows,
-                Verdict::Faultless => check_rate_sum(t),
-            }
-        }
+    Table {
+        denominator: denominator(&words),
+        count: count(&words),
+        requestors: rows,
     }
 }

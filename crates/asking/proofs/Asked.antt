@@ -6,15 +6,12 @@ use mathlib.Core.List.{List}
 use Prim.Native.Nat.{ℕ, _≤_, _<_}
 use native.Mathlib.Omega.{arith}
 use borrow.Author.Tests.{lt-ltb, le-ltb}
-use Rattle.arbiter.specs.declared.table.Table.{Table}
-use Rattle.arbiter.specs.declared.state.Arbiter.{Arbiter}
-use Rattle.arbiter.specs.Refusals.{faultless, fault, refusal, gate, then}
-use Rattle.arbiter.specs.Table.{requestorAt, tableVerdict}
-use Rattle.arbiter.specs.Figures.{finishesVerdict, admissionVerdict}
-use Rattle.arbiter.specs.State.{accountAt, sound, placeVerdict}
-use Rattle.arbiter.specs.Asked as asked
-use Rattle.arbiter.proofs.Checks.{Row, fair}
-use Rattle.arbiter.proofs.Sound.{sound-table, place-open}
+use Rattle.terms.specs.Table.{Table, requestorAt, tableVerdict}
+use Rattle.terms.specs.Figures.{finishesVerdict, admissionVerdict}
+use Rattle.terms.specs.State.{State, accountAt, sound, placeVerdict}
+use Rattle.terms.specs.Refusals.{faultless, fault, refusal, gate, then}
+use Rattle.terms.proofs.Checks.{Row, fair}
+use Rattle.terms.proofs.Sound.{sound-table, place-open}
 use Rattle.table_bytes.proofs.Writings.{row-fits}
 use Rattle.layout.specs.Words.{roomOf, rightLength, rowIn, accountIn, stateOf}
 use Rattle.layout.proofs.RoundTrip.{account-at}
@@ -56,16 +53,12 @@ finishes-left limit t passes = rw passes
 
 -- ---- the ways out
 
-module _ (limit : ℕ) (s : Arbiter) where
+module _ (limit : ℕ) (s : State) where
   -- no sound state
   module _ (not : sound limit s ≡ false) where
     pub place-unsound : (p : ℕ) → fault (refusal 23) ≡ placeVerdict limit s p
     unfolding placeVerdict gate
     place-unsound p = rw not
-
-    pub figures-unsound : (p j : ℕ) → asked.refused (refusal 23) ≡ asked.figures limit s p j
-    unfolding asked.figures asked.figuresVerdict placeVerdict gate then
-    figures-unsound p j = rw not
 
     pub standing-unsound : refused (refusal 23) ≡ standing limit s
     unfolding standing gate

@@ -1,2 +1,2 @@
--- What a look into a state tells. What the other questions come to stands in arbiter, leads and table_bytes.
+-- What a look into a state tells. What the other questions come to stands in terms, lead_parts and table_bytes.
 pub mod Look

@@ -1,19 +1,19 @@
 // The lead of a place over a log.
 use crate::place::check_place;
 use arbiter::input::check_input;
-use arbiter::refusals::Verdict;
-use arbiter::refusals::first_fault;
-use arbiter::units::Slots;
 use layout::words::denominator;
 use layout::words::rate;
 use lead_parts::count_grants;
 use lead_parts::difference;
-use leads::LeadAnswer;
+use terms::answers::LeadAnswer;
+use terms::refusals::Verdict;
+use terms::refusals::first_fault;
+use terms::units::Slots;
 ghost use mathlib.Core.Path.{_≡_};
 ghost use mathlib.Core.Bool.{true};
-ghost use Rattle.arbiter.specs.Limits.{maxPlaces};
+ghost use Rattle.terms.specs.Limits.{maxPlaces};
 ghost use Rattle.layout.specs.Words.{roomOf, rightLength, stateOf};
-ghost use Rattle.leads.specs.Lead.{leadAsked, leadAnswerOf};
+ghost use Rattle.lead_parts.specs.Lead.{leadAsked, leadAnswerOf};
 
 // Refused: 23, 11, 13.
 pub fn lead_words(words: &[u64], place: usize, log: &[u8]) -> LeadAnswer

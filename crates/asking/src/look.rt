@@ -1,31 +1,19 @@
 // A look into a state: the account of a place, and where the line stands.
 use crate::place::check_place;
-use arbiter::refusals::Cause;
-use arbiter::refusals::StateRefusal;
-use arbiter::refusals::Verdict;
-use arbiter::state::Account;
-use arbiter::units::Slots;
 use layout::words::account;
 use layout::words::count;
 use layout::words::slot_number;
 use soundness::soundness::is_sound;
+use terms::answers::AccountAnswer;
+use terms::answers::StandingAnswer;
+use terms::refusals::Cause;
+use terms::refusals::StateRefusal;
+use terms::refusals::Verdict;
 ghost use mathlib.Core.Path.{_≡_};
 ghost use mathlib.Core.Bool.{true};
-ghost use Rattle.arbiter.specs.Limits.{maxPlaces};
+ghost use Rattle.terms.specs.Limits.{maxPlaces};
 ghost use Rattle.layout.specs.Words.{roomOf, rightLength, stateOf};
 ghost use Rattle.asking.specs.Look.{accountAsked, standing, accountAnswerOf, standingAnswerOf};
-
-// The credit and the backlog of a place.
-pub enum AccountAnswer {
-    Told(Account),
-    Refused(Cause),
-}
-
-// The slot number, and N: the slot that comes next, and how many places there are to ask about.
-pub enum StandingAnswer {
-    Stands(Slots, usize),
-    Refused(Cause),
-}
 
 // Refused: 23, 11.
 pub fn account_words(words: &[u64], place: usize) -> AccountAnswer

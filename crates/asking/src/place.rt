@@ -1,15 +1,15 @@
 // What every question about a place is checked for first.
-use arbiter::refusals::Cause;
-use arbiter::refusals::InputRefusal;
-use arbiter::refusals::StateRefusal;
-use arbiter::refusals::Verdict;
 use layout::words::count;
 use soundness::soundness::is_sound;
+use terms::refusals::Cause;
+use terms::refusals::InputRefusal;
+use terms::refusals::StateRefusal;
+use terms::refusals::Verdict;
 ghost use mathlib.Core.Path.{_≡_};
 ghost use mathlib.Core.Bool.{true};
-ghost use Rattle.arbiter.specs.Limits.{maxPlaces};
-ghost use Rattle.arbiter.specs.Refusals.{verdictOf};
-ghost use Rattle.arbiter.specs.State.{placeVerdict};
+ghost use Rattle.terms.specs.Limits.{maxPlaces};
+ghost use Rattle.terms.specs.Refusals.{verdictOf};
+ghost use Rattle.terms.specs.State.{placeVerdict};
 ghost use Rattle.layout.specs.Words.{roomOf, rightLength, stateOf};
 
 // 23, then 11: N is a number of places only once the words are known to be a state's.

@@ -1,22 +1,24 @@
-// The bytes of a state's table, in a lent buffer.
-use admission::admit::check_finishes;
-use arbiter::refusals::Cause;
-use arbiter::refusals::InputRefusal;
-use arbiter::refusals::Verdict;
+// The bytes of the table that words are, in a lent buffer.
+use admission::finishes::check_finishes;
 use layout::words::count;
 use layout::words::denominator;
 use layout::words::requestor;
 use number_bytes::MAX_NUMBERS;
 use number_bytes::bytes_len;
 use number_bytes::put_numbers;
-use table_bytes::writer::WriteAnswer;
+use terms::answers::WriteAnswer;
+use terms::refusals::Cause;
+use terms::refusals::InputRefusal;
+use terms::refusals::Verdict;
 ghost use mathlib.Core.Path.{_≡_};
 ghost use mathlib.Core.Bool.{true};
 ghost use Prim.Native.Nat.{_+_, _*_};
 ghost use lib.ListN.{replicate};
 ghost use Rattle.lists.specs.Overwriting.{writtenOver};
-ghost use Rattle.arbiter.specs.Limits.{maxPlaces};
-ghost use Rattle.arbiter.specs.State.{sound};
+ghost use Rattle.terms.specs.Limits.{maxPlaces};
+ghost use Rattle.terms.specs.Refusals.{verdictOf};
+ghost use Rattle.terms.specs.Figures.{admissionVerdict};
+ghost use Rattle.terms.specs.State.{sound};
 ghost use Rattle.table_bytes.specs.Writing.{tableNumbers, writeTable, writeAnswerOf};
 ghost use Rattle.layout.specs.Words.{roomOf, rightLength, stateOf};
 ghost use Rattle.admission.specs.Checked.{tableIn, Checked};
@@ -46,14 +48,13 @@ fn numbers_of_words(words: &[u64]) -> [u32; MAX_NUMBERS]
     numbers
 }
 
-// Of words that passed test 23. The table's bytes from the buffer's start on; the bytes beyond are left as they were, and so are all of
-// them if it is refused. Refused: 7, 14; a state's table has passed 1 to 6.
-pub fn write_words(words: &[u64], buffer: &mut [u8]) -> WriteAnswer
-    requires { ⌜ (rightLength maxPlaces (now words) ≡ true) × (sound (roomOf (now words)) (stateOf (now words)) ≡ true) ⌝ }
+// The table's bytes from the buffer's start on; the bytes beyond are left as they were, and so are all of them if it is refused. What
+// admission finds is the caller's to say, since a state's table has passed 1 to 6 with test 23. Refused: 1 to 7, 14.
+pub fn write_words(words: &[u64], admission: Verdict, buffer: &mut [u8]) -> WriteAnswer
+    requires { ⌜ (rightLength maxPlaces (now words) ≡ true) × (verdictOf admission ≡ admissionVerdict (roomOf (now words)) (tableIn (now words))) ⌝ }
     ensures { λ a. ⌜ record { answer = writeAnswerOf a; buffer = now (buffer .exit) } ≡ writeTable (roomOf (now (words .entry))) (stateOf (now (words .entry)) .table) (now (buffer .entry)) ⌝ }
 {
-    let finishes = check_finishes(words);
-    match finishes {
+    match admission {
         Verdict::Fault(c) => WriteAnswer::Refused(c),
         Verdict::Faultless => {
             let numbers = numbers_of_words(words);
@@ -66,4 +67,13 @@ pub fn write_words(words: &[u64], buffer: &mut [u8]) -> WriteAnswer
             WriteAnswer::Wrote(size)
         }
     }
+}
+
+// The table of a state that passed test 23. Refused: 7, 14.
+pub fn write_state(words: &[u64], buffer: &mut [u8]) -> WriteAnswer
+    requires { ⌜ (rightLength maxPlaces (now words) ≡ true) × (sound (roomOf (now words)) (stateOf (now words)) ≡ true) ⌝ }
+    ensures { λ a. ⌜ record { answer = writeAnswerOf a; buffer = now (buffer .exit) } ≡ writeTable (roomOf (now (words .entry))) (stateOf (now (words .entry)) .table) (now (buffer .entry)) ⌝ }
+{
+    let finishes = check_finishes(words);
+    write_words(words, finishes, buffer)
 }

@@ -1,11 +1,13 @@
 // Everything that is printed goes to standard output through these: letters, numbers, and what a call hands back.
-use arbiter::refusals::Cause;
-use arbiter::refusals::Named;
-use arbiter::refusals::Origin;
 use arbiter::state::Arbiter;
-use arbiter::table::Requestor;
 use arbiter::table::Table;
+use layout::words::account;
+use layout::words::slot_number;
 use libc::STDOUT_FILENO;
+use terms::place::Requestor;
+use terms::refusals::Cause;
+use terms::refusals::Named;
+use terms::refusals::Origin;
 
 // The words are letters, which main.rt spells out.
 pub const LOAN: u8 = b'L';
@@ -102,11 +104,12 @@ pub fn refused(c: Cause) {
 
 // The credits and the backlogs of places 0 and 1, and the slot number.
 pub fn state(s: Arbiter) {
-    let a = s.accounts[0];
-    let b = s.accounts[1];
+    let words = s.words;
+    let a = account(&words, 0);
+    let b = account(&words, 1);
     let p = a.backlog;
     let q = b.backlog;
-    let slot = s.slot;
+    let slot = slot_number(&words);
     told(CREDITS, a.credit);
     number(b.credit);
     told(BACKLOGS, p.0);

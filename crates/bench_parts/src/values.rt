@@ -1,12 +1,14 @@
 // Tables and states that the cases are about.
-use arbiter::state::Account;
 use arbiter::state::Arbiter;
-use arbiter::state::no_account;
-use arbiter::table::Requestor;
 use arbiter::table::Table;
-use arbiter::table::bare_table;
-use arbiter::units::Slots;
-use arbiter::units::Transfers;
+use arbiter::table::lay_table;
+use layout::words::put_account;
+use layout::words::put_slot_number;
+use terms::place::Account;
+use terms::place::Requestor;
+use terms::place::no_requestor;
+use terms::units::Slots;
+use terms::units::Transfers;
 
 // A rate n, a burst b, and the need of one transfer within l slots.
 pub fn row(n: u64, b: u64, l: u64) -> Requestor {
@@ -15,6 +17,16 @@ pub fn row(n: u64, b: u64, l: u64) -> Requestor {
         burst: b,
         need: Transfers(1),
         within: Slots(l),
+    }
+}
+
+// A table of D and N whose rows are all 0.
+fn bare_table(d: u64, n: usize) -> Table {
+    let none = no_requestor();
+    Table {
+        denominator: d,
+        count: n,
+        requestors: [none; Arbiter::MAX_PLACES],
     }
 }
 
@@ -45,12 +57,9 @@ pub fn account(credit: u64, backlog: u64) -> Account {
 
 // Table T with these accounts at its two places. No start has made it, and it may break a rule.
 pub fn t_with(first: Account, second: Account, slot: u64) -> Arbiter {
-    let mut accounts = [no_account(); Arbiter::MAX_PLACES];
-    accounts[0] = first;
-    accounts[1] = second;
-    Arbiter {
-        table: t(),
-        slot: Slots(slot),
-        accounts: accounts,
-    }
+    let mut words = lay_table(t());
+    put_slot_number(&mut words, Slots(slot));
+    put_account(&mut words, 0, first);
+    put_account(&mut words, 1, second);
+    Arbiter { words: words }
 }

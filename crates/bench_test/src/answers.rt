@@ -1,13 +1,6 @@
 // The calls by value. Of each the line tells first what it handed back, and then its answer.
-use arbiter::admission::admit;
-use arbiter::asked::FiguresAnswer;
-use arbiter::asked::figures;
-use arbiter::refusals::Verdict;
-use arbiter::start::StartAnswer;
 use arbiter::state::Arbiter;
 use arbiter::table::Table;
-use arbiter::units::Slots;
-use arbiter::units::Transfers;
 use bench_parts::printing;
 use bench_parts::printing::case;
 use bench_parts::printing::decimals;
@@ -18,19 +11,32 @@ use bench_parts::printing::say;
 use bench_parts::printing::state;
 use bench_parts::printing::table;
 use bench_parts::printing::told;
-use calls::slot::SlotAnswer;
+use calls::admit::admit_table;
+use calls::figures::figures;
+use calls::lead::lead;
+use calls::look::account;
+use calls::look::standing;
+use calls::read::read_table;
+use calls::run::run;
+use calls::write::write_table;
 use groups::reading::Reading;
 use groups::reading::read_number;
 use groups::writing::number_len;
 use groups::writing::write_number;
 use in_place::slot_of_a_loan;
-use leads::LeadAnswer;
-use leads::lead;
 use replay::replay;
-use run::run::RunAnswer;
-use run::run::run;
-use table_bytes::reader::ReadAnswer;
-use table_bytes::reader::read_table;
+use terms::answers::AccountAnswer;
+use terms::answers::FiguresAnswer;
+use terms::answers::LeadAnswer;
+use terms::answers::ReadAnswer;
+use terms::answers::RunAnswer;
+use terms::answers::SlotAnswer;
+use terms::answers::StandingAnswer;
+use terms::answers::StartAnswer;
+use terms::answers::WriteAnswer;
+use terms::refusals::Verdict;
+use terms::units::Slots;
+use terms::units::Transfers;
 
 // A refused reading hands back a table of zeros.
 pub fn reads_table(bytes: &[u8]) {
@@ -70,8 +76,18 @@ pub fn writes_number(x: u32) {
     writes_into(x, &mut buffer);
 }
 
+// The whole buffer after a writing, and how many bytes were written.
+pub fn writes_table(t: Table, buffer: &mut [u8]) {
+    let answer = write_table(t, buffer);
+    decimals(buffer);
+    match answer {
+        WriteAnswer::Wrote(bytes) => told(printing::WROTE, bytes as u64),
+        WriteAnswer::Refused(c) => refused(c),
+    }
+}
+
 pub fn admits(t: Table) {
-    match admit(t) {
+    match admit_table(t) {
         Verdict::Faultless => say(printing::ACCEPTED),
         Verdict::Fault(c) => refused(c),
     }
@@ -165,4 +181,23 @@ pub fn replays(t: Table, first: u64, calls: &[u32]) {
     let mut answers = [7u64; 33];
     say(printing::REPLAY);
     replays_into(t, first, calls, &mut answers);
+}
+
+// The account of a place, and where the line stands: the slot number, and N.
+pub fn looks(s: Arbiter, place: usize) {
+    match account(s, place) {
+        AccountAnswer::Told(a) => {
+            let q = a.backlog;
+            told(printing::CREDITS, a.credit);
+            told(printing::BACKLOGS, q.0);
+        }
+        AccountAnswer::Refused(c) => refused(c),
+    }
+    match standing(s) {
+        StandingAnswer::Stands(at, n) => {
+            told(printing::SLOT, at.0);
+            number(n as u64);
+        }
+        StandingAnswer::Refused(c) => refused(c),
+    }
 }

@@ -3,14 +3,14 @@ use crate::answers::admits;
 use crate::answers::figures_of;
 use crate::answers::leads;
 use crate::answers::lends;
+use crate::answers::looks;
 use crate::answers::reads_number;
 use crate::answers::reads_table;
 use crate::answers::replays;
 use crate::answers::runs;
 use crate::answers::writes_number;
+use crate::answers::writes_table;
 use arbiter::state::Arbiter;
-use arbiter::units::Slots;
-use arbiter::units::Transfers;
 use bench_parts::printing::case;
 use bench_parts::printing::decimals;
 use bench_parts::values::account;
@@ -20,7 +20,9 @@ use bench_parts::values::t;
 use bench_parts::values::t_with;
 use bench_parts::values::two_places;
 use calls::post::post;
-use run::run::run;
+use calls::run::run;
+use terms::units::Slots;
+use terms::units::Transfers;
 
 fn cases_1_and_2() {
     case(1);
@@ -144,6 +146,27 @@ fn lists_of_calls() {
     replays(t(), 4611686018427387905, &[1, 1, 2]);
 }
 
+// T is written into a buffer with a byte to spare, and into one that is a byte short.
+fn written() {
+    let mut roomy = [170u8; 11];
+    let mut short = [170u8; 9];
+    case(1);
+    writes_table(t(), &mut roomy);
+    case(0);
+    writes_table(t(), &mut short);
+}
+
+// A place, one that is not there, and a state with a credit above its burst.
+fn looks_into_a_state() {
+    let s = t_with(account(5, 3), account(2, 1), 7);
+    case(0);
+    looks(s, 1);
+    case(0);
+    looks(s, 2);
+    case(0);
+    looks(t_with(account(9, 0), account(4, 0), 0), 0);
+}
+
 pub fn all() {
     cases_1_and_2();
     cases_3_and_4();
@@ -156,4 +179,6 @@ pub fn all() {
     cases_8_and_13();
     thin_form();
     lists_of_calls();
+    written();
+    looks_into_a_state();
 }

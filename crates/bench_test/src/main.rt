@@ -1,4 +1,4 @@
-// Document 01's cases through the calls by value, and beside them, as case 0, the thin form and replay: what only Rattle code can call. The
+// Document 01's cases through the calls by value, and beside them, as case 0, the thin form, replay, a short buffer and looks into a state: what only Rattle code can call. The
 // rows of refusals and edges are data for the tests in Rust (tests/rows.txt), and those that no exported function reaches are proved
 // rows (crates/cases).
 //
@@ -6,6 +6,7 @@
 //
 //     T D N, n b j L twice       a table, as far as its first two places
 //     c two q two s one          a state: the credits and the backlogs of places 0 and 1, and the slot number
+//     c one q one s two          what was asked of a state: a place's credit and backlog, the slot number and N
 //     A                          accepted
 //     X number, I or S, p place  refused, caused by the input or by the state, with the place that is named
 //     g place @ stamp, - @ stamp a slot that was granted, and an idle one

@@ -1,2 +1,2 @@
--- What a post and a slot do to a state.
-pub mod Calls
+-- What the calls by value hand back, in document 01's values.
+pub mod ByValue

@@ -4,20 +4,20 @@ use Rattle.lists.specs.Sums.{total, joined, every, upTo}
 use Rattle.lists.specs.Overwriting.{writtenOver}
 use Rattle.lists.specs.Runs
 use Rattle.groups.specs.Groups.{lastGroup, combined, laterGroups, numberOf, groupsOf, numberBytes, numberWritten}
-use Rattle.arbiter.specs.Refusals.{gate, then}
-use Rattle.arbiter.specs.Table.{tableOf, heldTo, rowVerdict, eachPlace, tailVerdict, rateSumVerdict, tableVerdict}
-use Rattle.arbiter.specs.Figures.{roundedUp, finish, finishVerdict, admissionVerdict}
-use Rattle.arbiter.specs.State.{accountsHold, sound, placeVerdict}
-use Rattle.arbiter.specs.Start.{opening, noState, startVerdict, start}
-use Rattle.arbiter.specs.Asked.{figuresVerdict, figures}
-use Rattle.arbiter.specs.Input.{inputVerdict}
-use Rattle.leads.specs.Lead.{leadOf, leadVerdict, leadAsked}
+use Rattle.terms.specs.Refusals.{gate, then}
+use Rattle.terms.specs.Table.{tableOf, heldTo, rowVerdict, eachPlace, tailVerdict, rateSumVerdict, tableVerdict}
+use Rattle.terms.specs.Figures.{roundedUp, finish, finishVerdict, admissionVerdict}
+use Rattle.terms.specs.State.{accountsHold, sound, placeVerdict}
+use Rattle.terms.specs.Start.{opening, noState, startVerdict, start}
+use Rattle.terms.specs.Asked.{figuresVerdict, figures}
+use Rattle.terms.specs.Input.{inputVerdict}
+use Rattle.lead_parts.specs.Lead.{leadOf, leadVerdict, leadAsked}
 use Rattle.table_bytes.specs.Reading.{next, fieldRead, rowRead, itemsRead, placesRead, numbersRead, lastVerdict, settled, readTable}
 use Rattle.table_bytes.specs.Writing.{tableNumbers, tableBytes, writeVerdict, writeTable}
 use Rattle.rule.specs.Rule.{eligible, later, firstEligible, served, passed, after}
 use Rattle.rule.specs.Grants.{toPlace}
-use Rattle.calls.specs.Calls.{grantOf, advanced, withCount, withPost, done, ruleVerdict, called}
-use Rattle.run.specs.Log.{slotsState, slotsLog, slotsVerdict, runVerdict, run}
+use Rattle.rule.specs.Calls.{grantOf, advanced, withCount, withPost, done, ruleVerdict, called}
+use Rattle.rule.specs.Log.{slotsState, slotsLog, slotsVerdict, runVerdict, run}
 use Rattle.replay.specs.Replay.{callOf, callsOf, madeCalls, answerWords, callsFrom, continued, replay}
 use Rattle.lines.specs.Text.{digitsOf, decimal, spaced, line}
 use Rattle.lines.specs.Lines.{header, endLine, refusedLine, slotLine}

@@ -6,13 +6,13 @@ use mathlib.Core.List.{List, [], _∷_, _++_}
 use Prim.Native.Nat.{ℕ}
 use lib.IntN.{pos, negsuc}
 use lib.ListN.{replicate}
-use Rattle.arbiter.specs.declared.table.Table.{Table}
-use Rattle.arbiter.specs.Refusals.{faultless, fault, refusal, refusalAt}
-use Rattle.arbiter.specs.Answers.{accepted, granted, idle, refused}
-use Rattle.arbiter.specs.Asked as asked
-use Rattle.leads.specs.Lead.{lead}
+use Rattle.terms.specs.Table.{Table}
+use Rattle.terms.specs.Refusals.{faultless, fault, refusal, refusalAt}
+use Rattle.terms.specs.Answers.{accepted, granted, idle, refused}
+use Rattle.terms.specs.Asked as asked
+use Rattle.lead_parts.specs.Lead.{lead}
 use Rattle.table_bytes.specs.Reading.{read, stop}
-use Rattle.calls.specs.Calls.{Call, post, slot}
+use Rattle.rule.specs.Calls.{Call, post, slot}
 use Rattle.cases.specs.Rows.{row, table, allZero, Row, readingNumber, writingNumber, reading, admission, calling, running, leading, askingFigures, figures, floor, after, standing, number, bytes, read-as, found, told, ran, led, told-figures, figured, floored}
 
 -- Table T: D=4; place 0: n=1, b=8, j=1, L=4; place 1: n=1, b=4, j=1, L=7

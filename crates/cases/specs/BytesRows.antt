@@ -5,11 +5,11 @@ use Prim.Native.Nat.{ℕ, suc, _+_, _-_, _*_}
 use lib.ListN.{replicate}
 use Rattle.lists.specs.Sums.{joined}
 use Rattle.groups.specs.declared.reading.Reading.the-variants.{Number, Ended, Malformed}
-use Rattle.arbiter.specs.declared.refusals.Refusal.{Refusal}
-use Rattle.arbiter.specs.declared.table.Table.{Table}
-use Rattle.arbiter.specs.Limits.{maxPlaces}
-use Rattle.arbiter.specs.Refusals.{refusal, refusalAt}
-use Rattle.arbiter.specs.Answers.{accepted, refused}
+use Rattle.terms.specs.declared.refusals.Refusal.{Refusal}
+use Rattle.terms.specs.Table.{Table}
+use Rattle.terms.specs.Limits.{maxPlaces}
+use Rattle.terms.specs.Refusals.{refusal, refusalAt}
+use Rattle.terms.specs.Answers.{accepted, refused}
 use Rattle.table_bytes.specs.Reading.{read, stop}
 use Rattle.table_bytes.specs.Writing.{wrote}
 use Rattle.table_bytes.specs.Writing as write

@@ -2,14 +2,13 @@
 use mathlib.Core.List.{List, [], _∷_, _++_}
 use Prim.Native.Nat.{suc, _-_}
 use lib.ListN.{replicate}
-use Rattle.arbiter.specs.declared.table.Requestor.{Requestor}
-use Rattle.arbiter.specs.declared.table.Table.{Table}
-use Rattle.arbiter.specs.Limits.{maxPlaces}
-use Rattle.arbiter.specs.Refusals.{faultless, fault, refusal, refusalAt}
-use Rattle.arbiter.specs.Answers.{accepted, granted, idle, refused}
-use Rattle.arbiter.specs.Table.{noRequestor}
-use Rattle.arbiter.specs.State.{noAccount}
-use Rattle.calls.specs.Calls.{post, slot}
+use Rattle.terms.specs.declared.place.Requestor.{Requestor}
+use Rattle.terms.specs.Table.{Table, noRequestor}
+use Rattle.terms.specs.Limits.{maxPlaces}
+use Rattle.terms.specs.Refusals.{faultless, fault, refusal, refusalAt}
+use Rattle.terms.specs.Answers.{accepted, granted, idle, refused}
+use Rattle.terms.specs.State.{noAccount}
+use Rattle.rule.specs.Calls.{post, slot}
 use Rattle.cases.specs.Rows.{row, account, table, allZeroState, stateOf, Row, admission, starting, calling, asking, replaying, standing, found, started-as, told, answered, replayed}
 use Rattle.cases.specs.BenchRows.{tableT, tableTShort}
 

@@ -3,35 +3,35 @@ use mathlib.Core.List.{List, [], _∷_, _++_}
 use Prim.Native.Nat.{ℕ, _-_}
 use lib.IntN.{pos, negsuc}
 use lib.ListN.{replicate}
-use Rattle.arbiter.specs.declared.state.Arbiter.{Arbiter}
-use Rattle.arbiter.specs.Limits.{maxPlaces}
-use Rattle.arbiter.specs.Refusals.{faultless, fault, refusal, refusalAt}
-use Rattle.arbiter.specs.Answers.{accepted, refused}
-use Rattle.arbiter.specs.Asked as asked
-use Rattle.leads.specs.Lead.{lead}
-use Rattle.leads.specs.Lead as leads
-use Rattle.calls.specs.Calls.{post}
+use Rattle.terms.specs.State.{State}
+use Rattle.terms.specs.Limits.{maxPlaces}
+use Rattle.terms.specs.Refusals.{faultless, fault, refusal, refusalAt}
+use Rattle.terms.specs.Answers.{accepted, refused}
+use Rattle.terms.specs.Asked as asked
+use Rattle.lead_parts.specs.Lead.{lead}
+use Rattle.lead_parts.specs.Lead as leads
+use Rattle.rule.specs.Calls.{post}
 use Rattle.cases.specs.Rows.{row, account, table, stateOf, Row, placeChecks, inputChecks, running, runChecks, leading, leadChecks, askingFigures, after, standing, found, ran, led, told-figures}
 use Rattle.cases.specs.BenchRows.{tableT, tableTShort, threeEach, logNine}
 
 -- T with this first slot number and nothing posted
-unfoldable pub startT : ℕ → Arbiter
+unfoldable pub startT : ℕ → State
 startT first = after tableT first []
 
 -- T at a slot number, with a credit sum past the burst sum
-unfoldable pub unsoundT : ℕ → Arbiter
+unfoldable pub unsoundT : ℕ → State
 unsoundT at = stateOf tableT at (account 9 0 ∷ account 3 0 ∷ [])
 
 -- D = 65,535, and one place with the largest rate
-unfoldable pub startFull : Arbiter
+unfoldable pub startFull : State
 startFull = after (table 65535 1 (row 65535 65535 1 1 ∷ [])) 0 []
 
 -- three places, D = 10: bursts of 10, 25 and 10, rates of 1, 2 and 4
-unfoldable pub startThree : Arbiter
+unfoldable pub startThree : State
 startThree = after (table 10 3 (row 1 10 1 10 ∷ row 2 25 1 7 ∷ row 4 10 1 8 ∷ [])) 0 []
 
 -- as many places as there can be, and one transfer waiting at the last
-unfoldable pub startLast : Arbiter
+unfoldable pub startLast : State
 startLast = after (table 100 maxPlaces (replicate maxPlaces (row 1 100 1 10000))) 0 (post (maxPlaces - 1) 1 ∷ [])
 
 -- the checks of a place and of a number of bytes, each asked by itself

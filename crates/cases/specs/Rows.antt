@@ -6,25 +6,23 @@ use lib.Dec.{ltb}
 use lib.ListN.{length, take, drop, getD, replicate}
 use Rattle.groups.specs.declared.reading.Reading.{Reading}
 use Rattle.groups.specs.Groups.{numberOf, numberBytes, Filled, numberWritten}
-use Rattle.arbiter.specs.declared.table.Requestor.{Requestor}
-use Rattle.arbiter.specs.declared.table.Table.{Table}
-use Rattle.arbiter.specs.declared.state.Account.{Account}
-use Rattle.arbiter.specs.declared.state.Arbiter.{Arbiter}
-use Rattle.arbiter.specs.Limits.{maxPlaces}
-use Rattle.arbiter.specs.Refusals.{Verdict}
-use Rattle.arbiter.specs.Answers.{Answer}
-use Rattle.arbiter.specs.Table.{requestorAt, requestorsOf, tableOf}
-use Rattle.arbiter.specs.Figures.{burstsAbove, rateLeft, wait, finish, admissionVerdict}
-use Rattle.arbiter.specs.State.{credit, backlog, noAccount, accountAt, placeVerdict}
-use Rattle.arbiter.specs.Input.{inputVerdict}
-use Rattle.arbiter.specs.Start.{start}
-use Rattle.arbiter.specs.Asked.{FiguresAnswer}
-use Rattle.arbiter.specs.Asked as asked
-use Rattle.leads.specs.Lead.{LeadAnswer, leadVerdict, leadAsked}
+use Rattle.terms.specs.declared.place.Requestor.{Requestor}
+use Rattle.terms.specs.Table.{Table, requestorAt, requestorsOf, tableOf}
+use Rattle.terms.specs.declared.place.Account.{Account}
+use Rattle.terms.specs.State.{State, credit, backlog, noAccount, accountAt, placeVerdict}
+use Rattle.terms.specs.Limits.{maxPlaces}
+use Rattle.terms.specs.Refusals.{Verdict}
+use Rattle.terms.specs.Answers.{Answer}
+use Rattle.terms.specs.Figures.{burstsAbove, rateLeft, wait, finish, admissionVerdict}
+use Rattle.terms.specs.Input.{inputVerdict}
+use Rattle.terms.specs.Start.{start}
+use Rattle.terms.specs.Asked.{FiguresAnswer}
+use Rattle.terms.specs.Asked as asked
+use Rattle.lead_parts.specs.Lead.{LeadAnswer, leadVerdict, leadAsked}
 use Rattle.table_bytes.specs.Reading.{Read, numberRead, readTable}
 use Rattle.table_bytes.specs.Writing.{WriteAnswer, writeTable}
-use Rattle.calls.specs.Calls.{Call, post, slot, called}
-use Rattle.run.specs.Log.{runVerdict, run}
+use Rattle.rule.specs.Calls.{Call, post, slot, called}
+use Rattle.rule.specs.Log.{runVerdict, run}
 use Rattle.guarantees.specs.Counts.{slotsIn, grantsTo, stateAfter, heardFrom}
 use Rattle.replay.specs.Replay.{replay}
 use Rattle.listing.specs.Listing.{listing}
@@ -59,11 +57,11 @@ abbrev pub allZero : Table
 allZero = record { denominator = 0; count = 0; requestors = replicate maxPlaces (row 0 0 0 0) }
 
 -- a state of a table, a slot number and accounts from place 0 on
-unfoldable pub stateOf : Table → ℕ → List Account → Arbiter
+unfoldable pub stateOf : Table → ℕ → List Account → State
 stateOf t at accounts = record { table = t; slot = record { 0 = at }; accounts = padded noAccount accounts }
 
 -- the state whose every field is 0
-abbrev pub allZeroState : Arbiter
+abbrev pub allZeroState : State
 allZeroState = record { table = allZero; slot = record { 0 = 0 }; accounts = replicate maxPlaces (account 0 0) }
 
 pub data Question : Type 0 where
@@ -86,20 +84,20 @@ pub data Question : Type 0 where
   -- what a start answers, and the calls from it, and how the state stands then
   calling : Table → (first : ℕ) → List Call → Question
   -- what one call on a state answers, and how the state stands then
-  asking : Arbiter → Call → Question
+  asking : State → Call → Question
   -- a lent list of calls as numbers, folded from a start into a lent list of answers
   replaying : Table → (first : ℕ) → (calls old : List ℕ) → Question
   -- what the checks of a place of a state find, and those of so many bytes of a log or of input
-  placeChecks : Arbiter → (place : ℕ) → Question
+  placeChecks : State → (place : ℕ) → Question
   inputChecks : (bytes : ℕ) → Question
   -- as many slots on a state as a lent log has bytes; and what the checks of a run over so many bytes find
-  running : Arbiter → (log : List ℕ) → Question
-  runChecks : Arbiter → (count : ℕ) → Question
+  running : State → (log : List ℕ) → Question
+  runChecks : State → (count : ℕ) → Question
   -- the lead of a place over a log; and what its checks find
-  leading : Arbiter → (place : ℕ) → (log : List ℕ) → Question
-  leadChecks : Arbiter → (place count : ℕ) → Question
+  leading : State → (place : ℕ) → (log : List ℕ) → Question
+  leadChecks : State → (place count : ℕ) → Question
   -- the figures call
-  askingFigures : Arbiter → (place j : ℕ) → Question
+  askingFigures : State → (place j : ℕ) → Question
   -- B, R, the wait and the finish figure of a place for j transfers
   figures : Table → (place j : ℕ) → Question
   -- the floor for a place over `inside`, entered after `before` from slot 0
@@ -127,7 +125,7 @@ pub data Reply : Type 0 where
   -- how many bytes were written or why none, and the lent buffer afterwards
   written-as : WriteAnswer → (buffer : List ℕ) → Reply
   found : Verdict → Reply
-  started-as : Answer → Arbiter → Reply
+  started-as : Answer → State → Reply
   told : (started : Answer) (answers : List Answer) → Standing → Reply
   answered : Answer → Standing → Reply
   replayed : (started : Answer) (answers : List ℕ) → Standing → Reply
@@ -139,15 +137,15 @@ pub data Reply : Type 0 where
   floored : (credit : ℕ) (waits : Bool) (granted owed : ℕ) → Reply
 
 -- the state after calls from a start
-abbrev pub after : Table → (first : ℕ) → List Call → Arbiter
+abbrev pub after : Table → (first : ℕ) → List Call → State
 after t first calls = stateAfter maxPlaces t first calls
 
 -- the state as a table with n places shows it
-unfoldable pub standsAt : ℕ → Arbiter → Standing
+unfoldable pub standsAt : ℕ → State → Standing
 standsAt n s = standing (s .slot .0) (map credit (take n (s .accounts))) (map backlog (take n (s .accounts)))
 
 -- place p has a transfer waiting directly before each slot
-unfoldable pub waitsThroughout : ℕ → Arbiter → List Call → Bool
+unfoldable pub waitsThroughout : ℕ → State → List Call → Bool
 waitsThroughout p s [] = true
 waitsThroughout p s (post i count ∷ cs) = waitsThroughout p (called maxPlaces s (post i count) .state) cs
 waitsThroughout p s (slot ∷ cs) = ltb 0 (backlog (accountAt p (s .accounts))) && waitsThroughout p (called maxPlaces s slot .state) cs

@@ -7,26 +7,24 @@ use lib.ListN.{take}
 use Rattle.lists.specs.Sums.{total}
 use Rattle.lists.specs.Runs.{answers}
 use Rattle.lists.proofs.Runs.{each, along}
-use Rattle.arbiter.specs.declared.table.Table.{Table}
-use Rattle.arbiter.specs.declared.state.Arbiter.{Arbiter}
-use Rattle.arbiter.specs.Table.{rate, burst, requestorsOf}
-use Rattle.arbiter.specs.State.{credit}
-use Rattle.arbiter.proofs.Sound.{Sound}
-use Rattle.calls.specs.Calls.{Call, grantOf, advanced, ruled}
-use Rattle.run.proofs.Head.{slotted}
+use Rattle.terms.specs.Table.{Table, rate, burst, requestorsOf}
+use Rattle.terms.specs.State.{State, credit}
+use Rattle.terms.proofs.Sound.{Sound}
+use Rattle.rule.specs.Calls.{Call, grantOf, advanced, ruled}
+use Rattle.rule.proofs.Head.{slotted}
 use Rattle.guarantees.specs.Counts.{slotsIn, grantsToFirst}
 use Rattle.guarantees.specs.Demand3.{Ceiling}
 use Rattle.guarantees.proofs.Grants.{slotIn, grantToFirst, slot-in, grant-to-first}
-use Rattle.run.proofs.Credits.{slotted-rise}
+use Rattle.rule.proofs.Credits.{slotted-rise}
 use Rattle.guarantees.proofs.Step.{by-kind, table-stands, posted-credits}
-use Rattle.run.proofs.Kept.{sound-credits}
+use Rattle.rule.proofs.Kept.{sound-credits}
 
 module _ (T : Table) (k C : ℕ) where
   -- T stands, and t slots with g grants to the first k places keep their credits within C + t × rates
-  abbrev Paid : ℕ → ℕ → Arbiter → Type 0
+  abbrev Paid : ℕ → ℕ → State → Type 0
   Paid t g s = (s .table ≡ T) × (total credit (take k (s .accounts)) + T .denominator * g ≤ C + t * total rate (take k (requestorsOf T)))
 
-  paid-next : (t g : ℕ) (s : Arbiter) (c : Call) → Unit {0} → Paid t g s
+  paid-next : (t g : ℕ) (s : State) (c : Call) → Unit {0} → Paid t g s
       → Paid (slotIn (ruled s c .answer) + t) (grantToFirst k (ruled s c .answer) + g) (ruled s c .state)
   unfolding advanced grantOf slotted
   paid-next t g s c w (on, h) = (
@@ -40,7 +38,7 @@ module _ (T : Table) (k C : ℕ) where
   )
 
 -- T is the table that stands where the stretch begins
-pub ceiling-from : (limit : ℕ) (T : Table) (s : Arbiter) → s .table ≡ T → Sound limit s → (inside : List Call) (k : ℕ) → k ≤ T .count
+pub ceiling-from : (limit : ℕ) (T : Table) (s : State) → s .table ≡ T → Sound limit s → (inside : List Call) (k : ℕ) → k ≤ T .count
     → Ceiling (T .denominator) (requestorsOf T) k (slotsIn (answers ruled s inside)) (grantsToFirst k (answers ruled s inside))
 ceiling-from limit T s on v inside k h =
     let C : ℕ = total credit (take k (s .accounts)) in

@@ -5,21 +5,20 @@ use Prim.Native.Nat.{ℕ, _+_}
 use native.Mathlib.Omega.{arith}
 use Rattle.lists.specs.Sums.{total}
 use Rattle.lists.specs.Runs.{end, answers}
-use Rattle.arbiter.specs.declared.refusals.Refusal.{Refusal}
-use Rattle.arbiter.specs.declared.state.Arbiter.{Arbiter}
-use Rattle.arbiter.specs.Answers.{refused}
-use Rattle.arbiter.specs.Table.{requestorsOf}
-use Rattle.arbiter.specs.State.{backlog, accountAt}
-use Rattle.arbiter.specs.Start.{opening}
-use Rattle.arbiter.proofs.Sound.{Sound, opening-backlog}
-use Rattle.calls.specs.Calls.{Call, post, slot, grantOf, advanced, ruled}
-use Rattle.run.proofs.Head.{slotted}
+use Rattle.terms.specs.declared.refusals.Refusal.{Refusal}
+use Rattle.terms.specs.State.{State, backlog, accountAt}
+use Rattle.terms.specs.Answers.{refused}
+use Rattle.terms.specs.Table.{requestorsOf}
+use Rattle.terms.specs.Start.{opening}
+use Rattle.terms.proofs.Sound.{Sound, opening-backlog}
+use Rattle.rule.specs.Calls.{Call, post, slot, grantOf, advanced, ruled}
+use Rattle.rule.proofs.Head.{slotted}
 use Rattle.guarantees.specs.Counts.{grantsTo}
 use Rattle.guarantees.specs.Conservation.{brought, broughtTo, Conservation}
 use Rattle.guarantees.proofs.Grants.{grantTo, grant-to}
-use Rattle.run.proofs.Slots.{slotted-backlog}
+use Rattle.rule.proofs.Slots.{slotted-backlog}
 use Rattle.guarantees.proofs.Step.{by-kind, post-place, posted-backlog}
-use Rattle.run.proofs.Kept.{accounts-cover}
+use Rattle.rule.proofs.Kept.{accounts-cover}
 use Rattle.guarantees.proofs.Sound.{sound-next}
 use Rattle.guarantees.proofs.Start.{opening-sound, entered-ruled, answered-ruled}
 
@@ -29,7 +28,7 @@ brought-refused p (post q count) r = refl
 brought-refused p slot r = refl
 
 -- one call
-pub conserved-next : (limit p : ℕ) (s : Arbiter) (c : Call) → Sound limit s
+pub conserved-next : (limit p : ℕ) (s : State) (c : Call) → Sound limit s
     → brought p c (ruled s c .answer) + backlog (accountAt p (s .accounts))
     ≡ grantTo p (ruled s c .answer) + backlog (accountAt p (ruled s c .state .accounts))
 unfolding brought advanced grantOf slotted
@@ -39,7 +38,7 @@ conserved-next limit p s c v = by-kind (λ c u a. brought p c a + backlog (accou
     (λ e. omega (arith, grant-to p (s .slot .0) (grantOf s), slotted-backlog (s .table .denominator) p (requestorsOf (s .table)) (s .accounts)))
 
 -- any calls, from any sound state
-pub conserved : (limit p : ℕ) (s : Arbiter) (calls : List Call) → Sound limit s
+pub conserved : (limit p : ℕ) (s : State) (calls : List Call) → Sound limit s
     → broughtTo p calls (answers ruled s calls) + backlog (accountAt p (s .accounts))
     ≡ grantsTo p (answers ruled s calls) + backlog (accountAt p (end ruled s calls .accounts))
 unfolding end answers broughtTo total

@@ -3,17 +3,17 @@
 use mathlib.Core.Path.{_≡_, ap, sym, _∙_}
 use Prim.Native.Nat.{ℕ, suc}
 use native.Mathlib.Omega.{arith}
-use Rattle.arbiter.specs.declared.table.Table.{Table}
-use Rattle.arbiter.specs.declared.state.Arbiter.{Arbiter}
-use Rattle.arbiter.proofs.Above.{above}
-use Rattle.arbiter.proofs.Sound.{Sound, sound-shut}
+use Rattle.terms.specs.Table.{Table}
+use Rattle.terms.specs.State.{State}
+use Rattle.terms.proofs.Above.{above}
+use Rattle.terms.proofs.Sound.{Sound, sound-shut}
 use Rattle.guarantees.specs.CreditSums.{Sustained, Credit-sums, Rate-left}
 use Rattle.guarantees.proofs.Step.{ruled-never-23}
 use Rattle.guarantees.proofs.Sound.{call-ruled}
 use Rattle.guarantees.proofs.Start.{entered-sound, entered-table, entered-ruled}
 
 -- of any sound state
-pub sustained : (limit : ℕ) (t : Table) (s : Arbiter) → s .table ≡ t → Sound limit s → Sustained limit t s
+pub sustained : (limit : ℕ) (t : Table) (s : State) → s .table ≡ t → Sound limit s → Sustained limit t s
 sustained limit t s on v = record {
   same-table = on;
   sums = λ k. omega (arith, rw on at (v .sums (suc k)));

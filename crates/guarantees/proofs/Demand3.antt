@@ -7,12 +7,10 @@ use Prim.Native.Nat.{ℕ, _+_, _*_, _≤_, _<_}
 use native.Mathlib.Nat.{mul-le-mul-left, mul-le-mul-right}
 use native.Mathlib.Omega.{arith}
 use Rattle.lists.specs.Runs.{end, answers}
-use Rattle.arbiter.specs.declared.table.Table.{Table}
-use Rattle.arbiter.specs.declared.state.Arbiter.{Arbiter}
-use Rattle.arbiter.specs.Table.{requestorsOf}
-use Rattle.arbiter.specs.State.{credit, accountAt}
-use Rattle.arbiter.proofs.Sound.{Sound}
-use Rattle.calls.specs.Calls.{Call, ruled, called}
+use Rattle.terms.specs.Table.{Table, requestorsOf}
+use Rattle.terms.specs.State.{State, credit, accountAt}
+use Rattle.terms.proofs.Sound.{Sound}
+use Rattle.rule.specs.Calls.{Call, ruled, called}
 use Rattle.guarantees.specs.Counts.{slotsIn, grantsTo, Waits, Accepted, stateAfter, heardFrom}
 use Rattle.guarantees.specs.Demand3.{Floor, ruledAfter, Demand-3}
 use Rattle.guarantees.specs.SharperFloor.{Sharp}
@@ -27,7 +25,7 @@ floor-of-sharper d n R B c L g rated enters (inl a) = omega (arith, mul-le-mul-l
 floor-of-sharper d n R B c L g rated enters (inr a) = omega (arith, mul-le-mul-left R enters)
 
 -- T is the table that stands where the stretch begins
-pub floor-from : (limit : ℕ) (T : Table) (s : Arbiter) → s .table ≡ T → Sound limit s → (inside : List Call) (p : ℕ) → p < T .count → Waits p s inside
+pub floor-from : (limit : ℕ) (T : Table) (s : State) → s .table ≡ T → Sound limit s → (inside : List Call) (p : ℕ) → p < T .count → Waits p s inside
     → T .denominator ≤ credit (accountAt p (s .accounts))
     → Floor (T .denominator) (requestorsOf T) p (slotsIn (answers ruled s inside)) (grantsTo p (answers ruled s inside))
 floor-from limit T s on v inside p place waits enters =

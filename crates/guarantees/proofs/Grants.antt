@@ -1,11 +1,11 @@
 -- What a slot's answer tells of its grant. Assumes nothing.
 use mathlib.Core.Path.{_≡_, refl}
 use Prim.Native.Nat.{ℕ}
-use Rattle.arbiter.specs.Answers.{Answer, accepted, granted, idle, refused}
+use Rattle.terms.specs.Answers.{Answer, accepted, granted, idle, refused}
 use Rattle.rule.specs.declared.rule.Grant.{Grant}
 use Rattle.rule.specs.declared.rule.Grant.the-variants.{Nobody, Place}
 use Rattle.rule.specs.Grants.{toPlace, toFirst}
-use Rattle.calls.specs.Calls.{slotAnswer}
+use Rattle.rule.specs.Calls.{slotAnswer}
 use Rattle.guarantees.specs.Counts.{inSlot}
 
 -- an accepted slot's answer is read by its grant

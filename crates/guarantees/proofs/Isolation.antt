@@ -13,21 +13,20 @@ use lib.Seq.{getD-set-other, take-take, getD-take, take-set-le, take-set-lt}
 use Rattle.lists.specs.Choices.{pick}
 use Rattle.lists.proofs.Tests.{cases, true-false}
 use Rattle.lists.specs.Runs.{Result}
-use Rattle.arbiter.specs.declared.table.Requestor.{Requestor}
-use Rattle.arbiter.specs.declared.state.Account.{Account}
-use Rattle.arbiter.specs.declared.state.Arbiter.{Arbiter}
-use Rattle.arbiter.specs.Refusals.{Verdict, faultless, fault, refusal, gate}
-use Rattle.arbiter.specs.Answers.{Answer}
-use Rattle.arbiter.specs.Table.{requestorsOf}
-use Rattle.arbiter.specs.State.{noAccount, accountAt, sound}
-use Rattle.arbiter.proofs.Sound.{Sound}
+use Rattle.terms.specs.declared.place.Requestor.{Requestor}
+use Rattle.terms.specs.declared.place.Account.{Account}
+use Rattle.terms.specs.State.{State, noAccount, accountAt, sound}
+use Rattle.terms.specs.Refusals.{Verdict, faultless, fault, refusal, gate}
+use Rattle.terms.specs.Answers.{Answer}
+use Rattle.terms.specs.Table.{requestorsOf}
+use Rattle.terms.proofs.Sound.{Sound}
 use Rattle.rule.specs.declared.rule.Grant.{Grant}
 use Rattle.rule.specs.declared.rule.Grant.the-variants.{Nobody, Place}
 use Rattle.rule.specs.Rule.{eligible, later, firstEligible, served, passed, after}
-use Rattle.calls.specs.Calls.{Call, post, slot, grantOf, advanced, withPost, slotAnswer, done, ruleVerdict, outcome, ruled, called}
+use Rattle.rule.specs.Calls.{Call, post, slot, grantOf, advanced, withPost, slotAnswer, done, ruleVerdict, outcome, ruled, called}
 use Rattle.guarantees.specs.Counts.{startState}
-use Rattle.guarantees.specs.Isolation.{Isolation, Post-apart, keep, concerning, view, Shown, shows, shown}
-use Rattle.run.proofs.Head.{after-later, first-no-account, after-no-account}
+use Rattle.guarantees.specs.Isolation.{Isolation, Post-apart, concerning, view, Shown, shows, shown}
+use Rattle.rule.proofs.Head.{after-later, first-no-account, after-no-account}
 use Rattle.guarantees.proofs.Step.{by-kind}
 use Rattle.guarantees.proofs.Sound.{sound-next, call-ruled}
 use Rattle.guarantees.proofs.Orders.{concernsFirst, concerningFirst, any-order}
@@ -35,7 +34,7 @@ use Rattle.guarantees.proofs.Start.{start-state-sound}
 
 -- ---- one post
 
-post-outcome : (v : Verdict) (s : Arbiter) (p count i : ℕ) → (i ≡ p → ⊥) → accountAt i (outcome v s (post p count) .state .accounts) ≡ accountAt i (s .accounts)
+post-outcome : (v : Verdict) (s : State) (p count i : ℕ) → (i ≡ p → ⊥) → accountAt i (outcome v s (post p count) .state .accounts) ≡ accountAt i (s .accounts)
 unfolding done withPost
 post-outcome faultless s p count i apart = getD-set-other (s .accounts) p i _ noAccount apart
 post-outcome (fault r) s p count i apart = refl
@@ -93,15 +92,15 @@ module _ (d : ℕ) where
 
 -- ---- a call on the state cut to the first m accounts
 
-unfoldable pub cut : ℕ → Arbiter → Arbiter
+unfoldable pub cut : ℕ → State → State
 cut m s = record { table = s .table; slot = s .slot; accounts = take m (s .accounts) }
 
 -- what a call on the cut state came to is what the first m places see of what it came to on the whole
-record Seen (m : ℕ) (whole part : Result Arbiter Answer) : Type 0 where
+record Seen (m : ℕ) (whole part : Result State Answer) : Type 0 where
   state : part .state ≡ cut m (whole .state)
   answer : view m (part .answer) ≡ view m (whole .answer)
 
-module _ (m : ℕ) (s : Arbiter) where
+module _ (m : ℕ) (s : State) where
   cut-grant : grantOf (cut m s) ≡ seen m (grantOf s)
   unfolding cut grantOf
   cut-grant = first-take (s .table .denominator) m (requestorsOf (s .table)) (s .accounts)
@@ -148,18 +147,18 @@ module _ (m : ℕ) (s : Arbiter) where
 -- ---- a list of calls
 
 module _ (m : ℕ) where
-  shows-seen : (c : Call) (whole part : Result Arbiter Answer) (rest : List Shown) → Seen m whole part → shows m c part rest ≡ shows m c whole rest
+  shows-seen : (c : Call) (whole part : Result State Answer) (rest : List Shown) → Seen m whole part → shows m c part rest ≡ shows m c whole rest
   unfolding cut shows
   shows-seen (post p count) whole part rest h = refl
   shows-seen slot whole part rest h =
       ap₂ (λ l v. record { accounts = l; answer = v } ∷ rest) (rw (h .state, take-take m m (whole .state .accounts) (omega arith))) (h .answer)
 
-  shows-unseen : (c : Call) (r : Result Arbiter Answer) (rest : List Shown) → concernsFirst m c ≡ false → shows m c r rest ≡ rest
+  shows-unseen : (c : Call) (r : Result State Answer) (rest : List Shown) → concernsFirst m c ≡ false → shows m c r rest ≡ rest
   unfolding concernsFirst shows
   shows-unseen (post p count) r rest e = refl
   shows-unseen slot r rest e = true-false e
 
-  shown-cut : (s : Arbiter) (calls : List Call) → shown ruled m s calls ≡ shown ruled m (cut m s) (concerningFirst m calls)
+  shown-cut : (s : State) (calls : List Call) → shown ruled m s calls ≡ shown ruled m (cut m s) (concerningFirst m calls)
   unfolding concerningFirst shown
   shown-cut s [] = refl
   shown-cut s (c ∷ cs) = rw (shown-cut (ruled s c .state) cs) (cases (concernsFirst m c)
@@ -168,12 +167,12 @@ module _ (m : ℕ) where
 
 -- the contracts' calls, from a sound state
 module _ (limit : ℕ) where
-  shown-same : (m : ℕ) (s : Arbiter) → Sound limit s → (calls : List Call) → shown (called limit) m s calls ≡ shown ruled m s calls
+  shown-same : (m : ℕ) (s : State) → Sound limit s → (calls : List Call) → shown (called limit) m s calls ≡ shown ruled m s calls
   unfolding shown
   shown-same m s v [] = refl
   shown-same m s v (c ∷ cs) = rw (call-ruled limit s c v, shown-same m (ruled s c .state) (sound-next limit s c v) cs)
 
-  pub shown-apart : (s : Arbiter) → Sound limit s → (k : ℕ) (calls others : List Call) → ((i : ℕ) → i ≤ k → concerning i calls ≡ concerning i others)
+  pub shown-apart : (s : State) → Sound limit s → (k : ℕ) (calls others : List Call) → ((i : ℕ) → i ≤ k → concerning i calls ≡ concerning i others)
       → shown (called limit) (suc k) s calls ≡ shown (called limit) (suc k) s others
   shown-apart s v k calls others same =
       shown-same (suc k) s v calls ∙ shown-cut (suc k) s calls

@@ -8,7 +8,7 @@ use native.Mathlib.Nat.{add-zero, add-comm, mul-zero, zero-mul, suc-mul}
 use native.Mathlib.Omega.{arith}
 use borrow.Author.Tests.{lt-ltb, le-ltb, ne-eqb, eqb-true, eqb-false, ltb-true, ltb-false}
 use lib.Dec.{ltb, eqb}
-use lib.IntN.{ℤ, pos, negℤ, _+ℤ_, _-ℤ_, _*ℤ_, +ℤ-assoc, +ℤ-comm, +ℤ-idr, +ℤ-invr, +ℤ-negℤ-cancel, negℤ-+ℤ, pos-+ℤ-pos, zero-*ℤ, sucℤ-*ℤ}
+use lib.IntN.{pos, negℤ, _+ℤ_, _-ℤ_, _*ℤ_, +ℤ-assoc, +ℤ-comm, +ℤ-idr, +ℤ-invr, +ℤ-negℤ-cancel, negℤ-+ℤ, pos-+ℤ-pos, zero-*ℤ, sucℤ-*ℤ}
 use lib.ListN.{length, take, getD}
 use lib.Seq.{getD-take}
 use Rattle.lists.specs.Choices.{pick}
@@ -16,21 +16,20 @@ use Rattle.lists.specs.Sums.{total}
 use Rattle.lists.specs.Runs.{answers}
 use Rattle.lists.proofs.Tests.{cases}
 use Rattle.lists.proofs.Sums.{total-take-suc}
-use Rattle.arbiter.specs.declared.table.Table.{Table}
-use Rattle.arbiter.specs.Answers.{Answer, accepted, granted, idle, refused}
-use Rattle.arbiter.specs.Table.{rate, burst, noRequestor, requestorAt, requestorsOf}
-use Rattle.arbiter.specs.Figures.{burstsAbove, rateLeft}
+use Rattle.terms.specs.Table.{Table, rate, burst, noRequestor, requestorAt, requestorsOf}
+use Rattle.terms.specs.Answers.{Answer, accepted, granted, idle, refused}
+use Rattle.terms.specs.Figures.{burstsAbove, rateLeft}
 use Rattle.lead_parts.specs.Counts.{bytesEqual}
-use Rattle.leads.specs.Lead.{leadOf, leadIn}
-use Rattle.arbiter.proofs.Sound.{sound-open}
+use Rattle.lead_parts.specs.Lead.{leadOf, leadIn}
+use Rattle.terms.proofs.Sound.{sound-open}
 use Rattle.rule.specs.declared.rule.Grant.{Grant}
 use Rattle.rule.specs.declared.rule.Grant.the-variants.{Nobody, Place}
 use Rattle.rule.specs.Grants.{toPlace, toFirst}
-use Rattle.calls.specs.Calls.{ruled}
-use Rattle.run.specs.Log.{run}
-use Rattle.run.proofs.Grants.{to-first-zero}
-use Rattle.run.proofs.Kept.{fair-table}
-use Rattle.run.proofs.Logs.{length-log}
+use Rattle.rule.specs.Calls.{ruled}
+use Rattle.rule.specs.Log.{run}
+use Rattle.rule.proofs.Grants.{to-first-zero}
+use Rattle.rule.proofs.Kept.{fair-table}
+use Rattle.rule.proofs.Logs.{length-log}
 use Rattle.guarantees.specs.Counts.{slotsIn, grantsTo, grantsToFirst}
 use Rattle.guarantees.specs.RunSlots.{slots, answerByte}
 use Rattle.guarantees.specs.Leads.{summedLeads, Leads-of-a-run}

@@ -1,4 +1,4 @@
--- From the ground up: a slot's answer, one call, then lists of calls; what one slot does stands in run. The theorems' files have the names of their statements'.
+-- From the ground up: a slot's answer, one call, then lists of calls; what one slot does stands in rule. The theorems' files have the names of their statements'.
 pub mod Grants
 pub mod Turns
 pub mod Step

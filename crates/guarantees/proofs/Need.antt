@@ -10,15 +10,13 @@ use native.Mathlib.Omega.{arith}
 use lib.ListN.{length}
 use Rattle.lists.specs.Sums.{total}
 use Rattle.lists.specs.Runs.{answers}
-use Rattle.arbiter.specs.declared.table.Table.{Table}
-use Rattle.arbiter.specs.declared.state.Arbiter.{Arbiter}
-use Rattle.arbiter.specs.Answers.{Answer, accepted, granted, idle, refused}
-use Rattle.arbiter.specs.Table.{requestorsOf, requestorAt}
-use Rattle.arbiter.specs.Figures.{roundedUp, burstsAbove, rateLeft, finishOf, finish}
-use Rattle.arbiter.specs.State.{credit, backlog, accountAt}
-use Rattle.arbiter.proofs.Checks.{fair}
-use Rattle.arbiter.proofs.Sound.{Sound, places-length, row-at, sound-fair, start-admitted, sound-open}
-use Rattle.calls.specs.Calls.{Call, ruled}
+use Rattle.terms.specs.Table.{Table, requestorsOf, requestorAt}
+use Rattle.terms.specs.State.{State, credit, backlog, accountAt}
+use Rattle.terms.specs.Answers.{Answer, accepted, granted, idle, refused}
+use Rattle.terms.specs.Figures.{roundedUp, burstsAbove, rateLeft, finishOf, finish}
+use Rattle.terms.proofs.Checks.{fair}
+use Rattle.terms.proofs.Sound.{Sound, places-length, row-at, sound-fair, start-admitted, sound-open}
+use Rattle.rule.specs.Calls.{Call, ruled}
 use Rattle.guarantees.specs.Counts.{inSlot, slotsIn, grantsTo, firstSlots, Waits, heardFrom}
 use Rattle.guarantees.specs.SharperFloor.{Sharp}
 use Rattle.guarantees.specs.Need.{Pending, GrantedWithin, Need-from-sound, Need-from-start, Own-need}
@@ -29,12 +27,12 @@ use Rattle.guarantees.proofs.SharperFloor.{own-rate-left, sharper-from}
 use Rattle.guarantees.proofs.Conservation.{conserved-next}
 
 -- the calls up to the m-th accepted slot
-firstCalls : Arbiter → List Call → ℕ → List Call
+firstCalls : State → List Call → ℕ → List Call
 firstCalls s [] m = []
 firstCalls s (c ∷ calls) zero = []
 firstCalls s (c ∷ calls) (suc m) = c ∷ firstCalls (ruled s c .state) calls (inSlot (suc m) (λ g. m) (ruled s c .answer))
 
-first-calls-answer : (s : Arbiter) (calls : List Call) (m : ℕ) → answers ruled s (firstCalls s calls m) ≡ firstSlots (answers ruled s calls) m
+first-calls-answer : (s : State) (calls : List Call) (m : ℕ) → answers ruled s (firstCalls s calls m) ≡ firstSlots (answers ruled s calls) m
 unfolding firstCalls answers firstSlots
 first-calls-answer s [] m = refl
 first-calls-answer s (c ∷ calls) zero = refl
@@ -50,7 +48,7 @@ first-slots-count (idle stamp ∷ heard) (suc m) h = omega (arith, first-slots-c
 first-slots-count (refused r ∷ heard) (suc m) h = omega (arith, first-slots-count heard (suc m) (omega arith))
 
 -- j transfers wait: either all are granted, or the place waits throughout
-waits-or-granted : (limit p j : ℕ) (s : Arbiter) (calls : List Call) → Sound limit s → j ≤ backlog (accountAt p (s .accounts))
+waits-or-granted : (limit p j : ℕ) (s : State) (calls : List Call) → Sound limit s → j ≤ backlog (accountAt p (s .accounts))
     → (j ≤ grantsTo p (answers ruled s calls)) ⊎ Waits p s calls
 unfolding answers total
 waits-or-granted limit p j s [] v h = inr tt
@@ -93,7 +91,7 @@ sharp-enough d n R B c L g j hd hn rated sharp figure = elim (decLe j g) [
     )
 
 -- T is the table that stands where the stretch begins; any number of slots from the finish figure on will do
-pub need-from : (limit : ℕ) (T : Table) (s : Arbiter) → s .table ≡ T → Sound limit s → (inside : List Call) (p j slots : ℕ)
+pub need-from : (limit : ℕ) (T : Table) (s : State) → s .table ≡ T → Sound limit s → (inside : List Call) (p j slots : ℕ)
     → Pending s p j → finish (T .denominator) (requestorsOf T) p j ≤ slots → GrantedWithin slots (heardFrom limit s inside) p j
 unfolding finish
 need-from limit T s on v inside p j slots pending figure reached =

@@ -3,18 +3,17 @@
 use mathlib.Core.Path.{_≡_, refl, sym, ap, _∙_}
 use mathlib.Core.Bool.{Bool, true, false}
 use mathlib.Core.List.{List, [], _∷_}
-use Prim.Native.Nat.{ℕ, zero, suc, _≤_, _<_}
+use Prim.Native.Nat.{ℕ, zero, suc, _<_}
 use native.Mathlib.Omega.{arith}
 use borrow.Author.Tests.{ltb-true, ltb-false, eqb-true, eqb-false, eq-eqb, ne-eqb}
 use lib.Dec.{ltb, eqb}
 use lib.ListN.{set}
 use lib.Seq.{getD-set-other}
 use Rattle.lists.proofs.Tests.{cases, true-false}
-use Rattle.arbiter.specs.declared.state.Account.{Account}
-use Rattle.arbiter.specs.declared.state.Arbiter.{Arbiter}
-use Rattle.arbiter.specs.Refusals.{Verdict, faultless, fault}
-use Rattle.arbiter.specs.State.{noAccount, accountAt}
-use Rattle.calls.specs.Calls.{Call, post, slot, withCount, withPost, done, ruleVerdict, outcome, ruled}
+use Rattle.terms.specs.declared.place.Account.{Account}
+use Rattle.terms.specs.State.{State, noAccount, accountAt}
+use Rattle.terms.specs.Refusals.{Verdict, faultless, fault}
+use Rattle.rule.specs.Calls.{Call, post, slot, withCount, withPost, done, ruleVerdict, outcome, ruled}
 use Rattle.guarantees.specs.Isolation.{keep, concerns, concerning, shows, shown}
 
 -- ---- two posts
@@ -26,7 +25,7 @@ set-apart (a ∷ accounts) zero (suc q) x y apart = refl
 set-apart (a ∷ accounts) (suc p) zero x y apart = refl
 set-apart (a ∷ accounts) (suc p) (suc q) x y apart = ap (λ l. a ∷ l) (set-apart accounts p q x y (λ e. apart (ap suc e)))
 
-module _ (s : Arbiter) (p n q b : ℕ) (apart : p ≡ q → ⊥) where
+module _ (s : State) (p n q b : ℕ) (apart : p ≡ q → ⊥) where
   -- a post to another place changes nothing that a post is judged by
   verdict-apart : (w : Verdict) → ruleVerdict (outcome w s (post q b) .state) (post p n) ≡ ruleVerdict s (post p n)
   unfolding ruleVerdict done withPost
@@ -49,7 +48,7 @@ module _ (s : Arbiter) (p n q b : ℕ) (apart : p ≡ q → ⊥) where
   by-verdicts (fault r) (fault x) = refl
 
 -- either may come first
-posts-commute : (s : Arbiter) (p n q b : ℕ) → (p ≡ q → ⊥) → ruled (ruled s (post q b) .state) (post p n) .state ≡ ruled (ruled s (post p n) .state) (post q b) .state
+posts-commute : (s : State) (p n q b : ℕ) → (p ≡ q → ⊥) → ruled (ruled s (post q b) .state) (post p n) .state ≡ ruled (ruled s (post p n) .state) (post q b) .state
 unfolding ruled
 posts-commute s p n q b apart =
     let v = ruleVerdict s (post p n) in
@@ -91,7 +90,7 @@ pub record Drawn (m p n : ℕ) (calls : List Call) : Type 0 where
   pub rest : List Call
   pub all-first : AllFirst m rest
   pub same-calls : (i : ℕ) → concerning i calls ≡ concerning i (post p n ∷ rest)
-  pub same-shown : (s : Arbiter) → shown ruled m s calls ≡ shown ruled m s (post p n ∷ rest)
+  pub same-shown : (s : State) → shown ruled m s calls ≡ shown ruled m s (post p n ∷ rest)
 
 keep-twice : (x y : Bool) (c d : Call) (cs : List Call) → (x ≡ true → y ≡ false) → keep x c (keep y d cs) ≡ keep y d (keep x c cs)
 keep-twice true true c d cs h = true-false (h refl)
@@ -135,7 +134,7 @@ draw m p n (post q b ∷ cs) others all e = cases (eqb q p) (λ y. here (rw y at
 -- ---- each place is posted the same before each slot
 
 module _ (m : ℕ) (some : 0 < m) where
-  agree : (s : Arbiter) (calls others : List Call) → AllFirst m calls → AllFirst m others
+  agree : (s : State) (calls others : List Call) → AllFirst m calls → AllFirst m others
       → ((i : ℕ) → i < m → concerning i calls ≡ concerning i others) → shown ruled m s calls ≡ shown ruled m s others
   unfolding concerning concerns concernsFirst shown shows
   agree s [] [] all all' h = refl
@@ -156,7 +155,7 @@ module _ (m : ℕ) (some : 0 < m) where
       (λ i l. keep-same (eqb p i) (post p n) (concerning i calls) (concerning i (d .rest)) (h i l ∙ d .same-calls i))
       ∙ sym (d .same-shown s)
 
-  pub any-order : (s : Arbiter) (calls others : List Call) → ((i : ℕ) → i < m → concerning i calls ≡ concerning i others)
+  pub any-order : (s : State) (calls others : List Call) → ((i : ℕ) → i < m → concerning i calls ≡ concerning i others)
       → shown ruled m s (concerningFirst m calls) ≡ shown ruled m s (concerningFirst m others)
   any-order s calls others h =
       agree s (concerningFirst m calls) (concerningFirst m others) (all-first m calls) (all-first m others)

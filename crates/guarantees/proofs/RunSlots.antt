@@ -8,17 +8,16 @@ use borrow.Author.Tests.{lt-ltb, leb-true, le-leb}
 use lib.ListN.{length, length-append}
 use Rattle.lists.specs.Runs.{end, answers}
 use Rattle.lists.specs.Sums.{total}
-use Rattle.arbiter.specs.declared.state.Arbiter.{Arbiter}
-use Rattle.arbiter.specs.Limits.{maxSlot, maxInput}
-use Rattle.arbiter.specs.Refusals.{Verdict, faultless, fault, gate, then, resolve}
-use Rattle.arbiter.specs.Answers.{accepted, refused}
-use Rattle.arbiter.specs.State.{sound, Shaped}
-use Rattle.arbiter.specs.Input.{inputVerdict}
-use Rattle.arbiter.proofs.Checks.{gate-open, then-open}
-use Rattle.arbiter.proofs.Sound.{sound-shut, sound-open}
-use Rattle.calls.specs.Calls.{slot, grantOf, advanced, slotAnswer, done, ruleVerdict, ruled}
-use Rattle.run.specs.Log.{grantByte, slotsState, slotsLog, slotsVerdict, runVerdict, Outcome, run}
-use Rattle.run.proofs.Logs.{slots-sound, state-adds, log-adds}
+use Rattle.terms.specs.State.{State, sound, Shaped}
+use Rattle.terms.specs.Limits.{maxSlot, maxInput}
+use Rattle.terms.specs.Refusals.{Verdict, faultless, fault, gate, then, resolve}
+use Rattle.terms.specs.Answers.{accepted, refused}
+use Rattle.terms.specs.Input.{inputVerdict}
+use Rattle.terms.proofs.Checks.{gate-open, then-open}
+use Rattle.terms.proofs.Sound.{sound-shut, sound-open}
+use Rattle.rule.specs.Calls.{slot, grantOf, advanced, slotAnswer, done, ruleVerdict, ruled}
+use Rattle.rule.specs.Log.{grantByte, slotsState, slotsLog, slotsVerdict, runVerdict, Outcome, run}
+use Rattle.rule.proofs.Logs.{slots-sound, state-adds, log-adds}
 use Rattle.guarantees.specs.Counts.{slotsIn, stateAfter}
 use Rattle.guarantees.specs.RunSlots.{slots, answerByte, Run-is-slots, Run-from-start, Run-splits}
 use Rattle.guarantees.proofs.Grants.{slotIn, in-slot-answer, slot-in}
@@ -28,11 +27,11 @@ use Rattle.guarantees.proofs.Start.{entered-sound, entered-ruled}
 -- ---- slots of the rule
 
 -- below the limit a slot is carried out
-slot-ruled : (s : Arbiter) → s .slot .0 < maxSlot → ruled s slot ≡ record { state = advanced s (grantOf s); answer = slotAnswer (s .slot .0) (grantOf s) }
+slot-ruled : (s : State) → s .slot .0 < maxSlot → ruled s slot ≡ record { state = advanced s (grantOf s); answer = slotAnswer (s .slot .0) (grantOf s) }
 unfolding ruled ruleVerdict gate done
 slot-ruled s h = rw (lt-ltb (s .slot .0) maxSlot h)
 
-pub record Ruled (s : Arbiter) (k : ℕ) : Type 0 where
+pub record Ruled (s : State) (k : ℕ) : Type 0 where
   pub state : end ruled s (slots k) ≡ slotsState k s
   pub log : map answerByte (answers ruled s (slots k)) ≡ slotsLog k s
   pub count : slotsIn (answers ruled s (slots k)) ≡ k
@@ -40,7 +39,7 @@ pub record Ruled (s : Arbiter) (k : ℕ) : Type 0 where
 one-more : (k : ℕ) → 1 + k ≡ suc k
 one-more k = omega arith
 
-pub slots-ruled : (k : ℕ) (s : Arbiter) → s .slot .0 + k ≤ maxSlot → Ruled s k
+pub slots-ruled : (k : ℕ) (s : State) → s .slot .0 + k ≤ maxSlot → Ruled s k
 unfolding end answers slotsState slotsLog total advanced
 slots-ruled zero s h = record { state = refl; log = refl; count = refl }
 slots-ruled (suc k) s h =
@@ -59,14 +58,14 @@ slots-ruled (suc k) s h =
 -- ---- an accepted run
 
 -- what its checks say
-pub record Passed (limit : ℕ) (s : Arbiter) (old : List ℕ) : Type 0 where
+pub record Passed (limit : ℕ) (s : State) (old : List ℕ) : Type 0 where
   pub sound-is : sound limit s ≡ true
   pub short : length old ≤ maxInput
   pub below : s .slot .0 + length old ≤ maxSlot
   pub state : run limit s old .state ≡ slotsState (length old) s
   pub log : run limit s old .log ≡ slotsLog (length old) s
 
-pub passed : (limit : ℕ) (s : Arbiter) (old : List ℕ) → run limit s old .answer ≡ accepted → Passed limit s old
+pub passed : (limit : ℕ) (s : State) (old : List ℕ) → run limit s old .answer ≡ accepted → Passed limit s old
 unfolding run runVerdict inputVerdict slotsVerdict
 passed limit s old e = told (runVerdict limit s (length old)) refl e where
   told : (v : Verdict) → runVerdict limit s (length old) ≡ v
@@ -79,7 +78,7 @@ passed limit s old e = told (runVerdict limit s (length old)) refl e where
   told (fault r) f g = let z : _≡_ {A = ℕ} 0 1 = cc in absurd (omega arith)
 
 -- and the other way round
-accept-run : (limit : ℕ) (s : Arbiter) (old : List ℕ) → sound limit s ≡ true → length old ≤ maxInput → s .slot .0 + length old ≤ maxSlot
+accept-run : (limit : ℕ) (s : State) (old : List ℕ) → sound limit s ≡ true → length old ≤ maxInput → s .slot .0 + length old ≤ maxSlot
     → run limit s old ≡ record { state = slotsState (length old) s; answer = accepted; log = slotsLog (length old) s }
 unfolding run runVerdict inputVerdict slotsVerdict gate then
 accept-run limit s old ok short below = rw (ok, le-leb (length old) maxInput short, le-leb (s .slot .0 + length old) maxSlot below)

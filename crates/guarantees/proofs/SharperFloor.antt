@@ -9,24 +9,22 @@ use lib.ListN.{length, take}
 use Rattle.lists.specs.Sums.{total}
 use Rattle.lists.specs.Runs.{answers}
 use Rattle.lists.proofs.Runs.{along}
-use Rattle.arbiter.specs.declared.table.Table.{Table}
-use Rattle.arbiter.specs.declared.state.Account.{Account}
-use Rattle.arbiter.specs.declared.state.Arbiter.{Arbiter}
-use Rattle.arbiter.specs.Table.{requestorsOf, requestorAt}
-use Rattle.arbiter.specs.Figures.{burstsAbove, ratesAbove, rateLeft}
-use Rattle.arbiter.specs.State.{credit, backlog, accountAt}
-use Rattle.arbiter.proofs.Sound.{Sound, rates-most, sound-fair, sound-open}
+use Rattle.terms.specs.Table.{Table, requestorsOf, requestorAt}
+use Rattle.terms.specs.declared.place.Account.{Account}
+use Rattle.terms.specs.State.{State, credit, backlog, accountAt}
+use Rattle.terms.specs.Figures.{burstsAbove, ratesAbove, rateLeft}
+use Rattle.terms.proofs.Sound.{Sound, rates-most, sound-fair, sound-open}
 use Rattle.rule.specs.Rule.{firstEligible}
-use Rattle.calls.specs.Calls.{Call, grantOf, advanced, ruled}
-use Rattle.run.proofs.Head.{slotted}
+use Rattle.rule.specs.Calls.{Call, grantOf, advanced, ruled}
+use Rattle.rule.proofs.Head.{slotted}
 use Rattle.rule.specs.Grants.{toPlace}
 use Rattle.guarantees.specs.Counts.{slotsIn, grantsTo, Waits, WaitsAt}
 use Rattle.guarantees.specs.SharperFloor.{Sharp, Sharper, Sharper-floor}
 use Rattle.guarantees.proofs.Grants.{slotIn, grantTo, slot-in, grant-to, slot-meets}
-use Rattle.run.proofs.Credits.{Roomy, slotted-rise, slotted-within}
+use Rattle.rule.proofs.Credits.{Roomy, slotted-rise, slotted-within}
 use Rattle.guarantees.proofs.Turns.{Turn, above, own, short, turn}
 use Rattle.guarantees.proofs.Step.{by-kind, table-stands, posted-credits, posted-credit}
-use Rattle.run.proofs.Kept.{places-count, sound-roomy, sound-credits}
+use Rattle.rule.proofs.Kept.{places-count, sound-roomy, sound-credits}
 use Rattle.guarantees.proofs.Sound.{sound-next, answers-ruled}
 use Rattle.guarantees.proofs.CreditSums.{rate-left}
 
@@ -76,7 +74,7 @@ At T p c₀ t g accounts = Held (T .denominator) (requestorAt p (requestorsOf T)
     t g (total credit (take p accounts)) (credit (accountAt p accounts))
 
 -- T stands, the state is sound, and the invariant holds of t slots and g grants
-abbrev Kept : ℕ → Table → (p c₀ t g : ℕ) → Arbiter → Type 0
+abbrev Kept : ℕ → Table → (p c₀ t g : ℕ) → State → Type 0
 Kept limit T p c₀ t g s = (s .table ≡ T) × Sound limit s × At T p c₀ t g (s .accounts)
 
 module _ (T : Table) (p c₀ t g : ℕ) (place : p < T .count) where
@@ -94,7 +92,7 @@ module _ (T : Table) (p c₀ t g : ℕ) (place : p < T .count) where
       go (short a x l c) = rw (x, zero-add g)
           (held-short _ _ _ _ c₀ t g _ _ _ _ (slotted-within (T .denominator) p (requestorsOf T) accounts (omega arith) roomy a) l c v)
 
-kept-next : (limit : ℕ) (T : Table) (p c₀ : ℕ) → p < T .count → (t g : ℕ) (s : Arbiter) (c : Call) → WaitsAt p s (ruled s c .answer)
+kept-next : (limit : ℕ) (T : Table) (p c₀ : ℕ) → p < T .count → (t g : ℕ) (s : State) (c : Call) → WaitsAt p s (ruled s c .answer)
     → Kept limit T p c₀ t g s → Kept limit T p c₀ (slotIn (ruled s c .answer) + t) (grantTo p (ruled s c .answer) + g) (ruled s c .state)
 unfolding advanced grantOf slotted
 kept-next limit T p c₀ place t g s c waits (on, v, held) = (
@@ -110,7 +108,7 @@ kept-next limit T p c₀ place t g s c waits (on, v, held) = (
 )
 
 -- T is the table that stands where the stretch begins
-module _ (limit : ℕ) (T : Table) (s : Arbiter) (on : s .table ≡ T) (v : Sound limit s) (p : ℕ) (place : p < T .count) where
+module _ (limit : ℕ) (T : Table) (s : State) (on : s .table ≡ T) (v : Sound limit s) (p : ℕ) (place : p < T .count) where
   pub own-rate-left : (requestorAt p (requestorsOf T) .rate ≤ rateLeft (T .denominator) p (requestorsOf T)) × (1 ≤ rateLeft (T .denominator) p (requestorsOf T))
   own-rate-left = rate-left limit T (rw on at (v .rows)) (rw on at (v .passes)) p place
 

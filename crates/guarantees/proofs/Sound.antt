@@ -10,14 +10,14 @@ use lib.Seq.{drop-set-lt}
 use Rattle.lists.proofs.Tests.{cases}
 use Rattle.lists.specs.Runs.{end, answers}
 use Rattle.lists.proofs.Runs.{keeps, same-end, same-answers}
-use Rattle.arbiter.specs.declared.state.Arbiter.{Arbiter}
-use Rattle.arbiter.specs.Refusals.{faultless, gate}
-use Rattle.arbiter.proofs.Sound.{Sound, sound-shut}
-use Rattle.calls.specs.Calls.{Call, post, withCount, withPost, ruleVerdict, ruled, called}
-use Rattle.run.proofs.Kept.{accounts-cover, advanced-sound}
+use Rattle.terms.specs.State.{State}
+use Rattle.terms.specs.Refusals.{faultless, gate}
+use Rattle.terms.proofs.Sound.{Sound, sound-shut}
+use Rattle.rule.specs.Calls.{Call, post, withCount, withPost, ruleVerdict, ruled, called}
+use Rattle.rule.proofs.Kept.{accounts-cover, advanced-sound}
 use Rattle.guarantees.proofs.Step.{by-kind, post-place, post-fits, posted-credits, posted-backlog, slot-below}
 
-module _ (limit : ℕ) (s : Arbiter) where
+module _ (limit : ℕ) (s : State) where
   module _ (v : Sound limit s) where
     posted-sound : (p count : ℕ) → ruleVerdict s (post p count) ≡ faultless → Sound limit (withPost s p count)
     unfolding withPost withCount
@@ -38,19 +38,19 @@ module _ (limit : ℕ) (s : Arbiter) where
 
 module _ (limit : ℕ) where
   -- every call keeps a state sound
-  pub sound-next : (s : Arbiter) (c : Call) → Sound limit s → Sound limit (ruled s c .state)
+  pub sound-next : (s : State) (c : Call) → Sound limit s → Sound limit (ruled s c .state)
   sound-next s c v = by-kind (λ c u a. Sound limit u) s c (λ r e. v) (posted-sound limit s v) (λ e. advanced-sound limit s v (slot-below s e))
 
-  pub sound-end : (s : Arbiter) (calls : List Call) → Sound limit s → Sound limit (end ruled s calls)
+  pub sound-end : (s : State) (calls : List Call) → Sound limit s → Sound limit (end ruled s calls)
   sound-end = keeps ruled (Sound limit) sound-next
 
   -- from a sound state a call is the rule's, and so is a list of calls: all that follows is proved of the rule's run
-  pub call-ruled : (s : Arbiter) (c : Call) → Sound limit s → called limit s c ≡ ruled s c
+  pub call-ruled : (s : State) (c : Call) → Sound limit s → called limit s c ≡ ruled s c
   unfolding called ruled gate
   call-ruled s c v = rw (sound-shut limit s v)
 
-  pub end-ruled : (s : Arbiter) (calls : List Call) → Sound limit s → end (called limit) s calls ≡ end ruled s calls
+  pub end-ruled : (s : State) (calls : List Call) → Sound limit s → end (called limit) s calls ≡ end ruled s calls
   end-ruled = same-end (called limit) ruled (Sound limit) call-ruled sound-next
 
-  pub answers-ruled : (s : Arbiter) (calls : List Call) → Sound limit s → answers (called limit) s calls ≡ answers ruled s calls
+  pub answers-ruled : (s : State) (calls : List Call) → Sound limit s → answers (called limit) s calls ≡ answers ruled s calls
   answers-ruled = same-answers (called limit) ruled (Sound limit) call-ruled sound-next

@@ -9,12 +9,12 @@ use native.Mathlib.Omega.{arith}
 use lib.ListN.{length, getD}
 use Rattle.lists.specs.Sums.{total}
 use Rattle.lists.specs.Runs
-use Rattle.arbiter.specs.declared.state.Arbiter.{Arbiter}
-use Rattle.arbiter.specs.Answers.{Answer}
-use Rattle.arbiter.specs.Start.{opening}
+use Rattle.terms.specs.State.{State}
+use Rattle.terms.specs.Answers.{Answer}
+use Rattle.terms.specs.Start.{opening}
 use Rattle.rule.specs.declared.rule.Grant.{Grant}
 use Rattle.rule.specs.declared.rule.Grant.the-variants.{Nobody, Place}
-use Rattle.calls.specs.Calls.{Call, grantOf, advanced, withPost, slotAnswer, ruled}
+use Rattle.rule.specs.Calls.{Call, grantOf, advanced, withPost, slotAnswer, ruled}
 use Rattle.guarantees.specs.Counts.{slotsIn}
 use Rattle.guarantees.specs.Stamps.{Stamps, Distinct-stamps, stampsIn, countedFrom}
 use Rattle.guarantees.proofs.Step.{by-kind}
@@ -33,7 +33,7 @@ slot-in-front n Nobody heard h = rw one-add (ap (λ l. n ∷ l) h)
 slot-in-front n (Place p) heard h = rw one-add (ap (λ l. n ∷ l) h)
 
 -- any other call in front takes none
-call-in-front : (s : Arbiter) (c : Call) (heard : List Answer)
+call-in-front : (s : State) (c : Call) (heard : List Answer)
     → StampedFrom (ruled s c .state .slot .0) heard → StampedFrom (s .slot .0) (ruled s c .answer ∷ heard)
 unfolding stampsIn total withPost advanced
 call-in-front s c = by-kind
@@ -42,7 +42,7 @@ call-in-front s c = by-kind
     (λ p count v heard h. rw zero-add h)
     (λ v. slot-in-front (s .slot .0) (grantOf s))
 
-pub stamps-ruled : (s : Arbiter) (calls : List Call) → StampedFrom (s .slot .0) (Runs.answers ruled s calls)
+pub stamps-ruled : (s : State) (calls : List Call) → StampedFrom (s .slot .0) (Runs.answers ruled s calls)
 unfolding Runs.answers stampsIn countedFrom total
 stamps-ruled s [] = refl
 stamps-ruled s (c ∷ cs) = call-in-front s c (Runs.answers ruled (ruled s c .state) cs) (stamps-ruled (ruled s c .state) cs)

@@ -5,25 +5,34 @@ use Prim.Native.Nat.{ℕ}
 use native.Mathlib.Omega.{arith}
 use Rattle.lists.specs.Runs.{Result, end, answers}
 use Rattle.lists.proofs.Runs.{keeps}
-use Rattle.arbiter.specs.declared.table.Table.{Table}
-use Rattle.arbiter.specs.declared.state.Arbiter.{Arbiter}
-use Rattle.arbiter.specs.Refusals.{Verdict, faultless, fault, resolve}
-use Rattle.arbiter.specs.Answers.{Answer, accepted, refused}
-use Rattle.arbiter.specs.Start.{opening, noState, startVerdict, start}
-use Rattle.arbiter.proofs.Sound.{Sound, start-sound}
-use Rattle.calls.specs.Calls.{Call, ruled, called}
+use Rattle.terms.specs.declared.refusals.Refusal.{Refusal}
+use Rattle.terms.specs.Table.{Table}
+use Rattle.terms.specs.State.{State}
+use Rattle.terms.specs.Refusals.{Verdict, faultless, fault, resolve}
+use Rattle.terms.specs.Answers.{Answer, accepted, refused}
+use Rattle.terms.specs.Start.{opening, noState, startVerdict, start}
+use Rattle.terms.proofs.Sound.{Sound, start-sound}
+use Rattle.rule.specs.Calls.{Call, ruled, called}
 use Rattle.guarantees.specs.Counts.{Accepted, startState}
 use Rattle.guarantees.proofs.Step.{table-stands}
 use Rattle.guarantees.proofs.Sound.{sound-end, end-ruled, answers-ruled}
 
 -- what start hands back by its verdict
-abbrev started : Verdict → Arbiter → Arbiter → Result Arbiter Answer
+abbrev started : Verdict → State → State → Result State Answer
 started v opens refuses = resolve v (record { state = opens; answer = accepted }) (λ r. record { state = refuses; answer = refused r })
 
-started-open : (v : Verdict) (opens refuses : Arbiter) → started v opens refuses .answer ≡ accepted
+started-open : (v : Verdict) (opens refuses : State) → started v opens refuses .answer ≡ accepted
     → (v ≡ faultless) × (started v opens refuses .state ≡ opens)
 started-open faultless opens refuses e = (refl, refl)
 started-open (fault r) opens refuses e = let z : _≡_ {A = ℕ} 0 1 = cc in absurd (omega arith)
+
+-- a start is accepted or refused
+pub start-ends : {X : Type 0} (limit : ℕ) (t : Table) (first : ℕ) → (start limit t first .answer ≡ accepted → X) → ((why : Refusal) → start limit t first .answer ≡ refused why → X) → X
+unfolding start
+start-ends {X} limit t first on off = by (startVerdict limit t first) refl where
+  by : (v : Verdict) → startVerdict limit t first ≡ v → X
+  by faultless f = on (rw f)
+  by (fault why) f = off why (rw f)
 
 -- an accepted start
 module _ (limit : ℕ) (t : Table) (first : ℕ) (a : Accepted limit t first) where

@@ -11,20 +11,19 @@ use Rattle.lists.specs.Choices.{pick}
 use Rattle.lists.proofs.Tests.{cases}
 use Rattle.lists.specs.Sums.{total}
 use Rattle.lists.proofs.Sums.{total-take-set, at-set}
-use Rattle.arbiter.specs.declared.refusals.Refusal.{Refusal}
-use Rattle.arbiter.specs.declared.state.Arbiter.{Arbiter}
-use Rattle.arbiter.specs.Limits.{maxBacklog, maxSlot}
-use Rattle.arbiter.specs.Refusals.{Verdict, faultless, fault, refusal}
-use Rattle.arbiter.specs.Answers.{Answer, accepted, refused}
-use Rattle.arbiter.specs.State.{credit, backlog, noAccount, accountAt}
-use Rattle.arbiter.proofs.Checks.{faultless-fault, gate-open, gate-not}
+use Rattle.terms.specs.declared.refusals.Refusal.{Refusal}
+use Rattle.terms.specs.State.{State, credit, backlog, noAccount, accountAt}
+use Rattle.terms.specs.Limits.{maxBacklog, maxSlot}
+use Rattle.terms.specs.Refusals.{Verdict, faultless, fault, refusal}
+use Rattle.terms.specs.Answers.{Answer, accepted, refused}
+use Rattle.terms.proofs.Checks.{faultless-fault, gate-open, gate-not}
 use Rattle.rule.specs.declared.rule.Grant.{Grant}
 use Rattle.rule.specs.declared.rule.Grant.the-variants.{Nobody, Place}
-use Rattle.calls.specs.Calls.{Call, post, slot, grantOf, advanced, withCount, withPost, slotAnswer, done, ruleVerdict, outcome, ruled}
-use Rattle.calls.proofs.Verdicts.{outcome-table}
+use Rattle.rule.specs.Calls.{Call, post, slot, grantOf, advanced, withCount, withPost, slotAnswer, done, ruleVerdict, outcome, ruled}
+use Rattle.rule.proofs.Verdicts.{outcome-table}
 
 -- P of a call, the state that it hands back and its answer
-module _ (P : Call → Arbiter → Answer → Type 0) (s : Arbiter) where
+module _ (P : Call → State → Answer → Type 0) (s : State) where
   by-verdict : (c : Call) (v : Verdict) → ruleVerdict s c ≡ v
       → ((r : Refusal) → ruleVerdict s c ≡ fault r → P c s (refused r))
       → ((p count : ℕ) → ruleVerdict s (post p count) ≡ faultless → P (post p count) (withPost s p count) accepted)
@@ -43,7 +42,7 @@ module _ (P : Call → Arbiter → Answer → Type 0) (s : Arbiter) where
   unfolding ruled
   by-kind c = by-verdict c (ruleVerdict s c) refl
 
-module _ (s : Arbiter) where
+module _ (s : State) where
   -- no call changes the table
   pub table-stands : (c : Call) → ruled s c .state .table ≡ s .table
   unfolding ruled
@@ -81,7 +80,7 @@ module _ (s : Arbiter) where
   slot-below e = ltb-true _ _ (gate-open _ _ _ e .0)
 
 -- the rule itself turns down by 11, 21 and 22 alone
-rule-never-23 : (s : Arbiter) (c : Call) → ruleVerdict s c ≡ fault (refusal 23) → ⊥
+rule-never-23 : (s : State) (c : Call) → ruleVerdict s c ≡ fault (refusal 23) → ⊥
 unfolding ruleVerdict
 rule-never-23 s (post p count) = gate-not _ _ _ _ (omega arith) (gate-not _ _ _ _ (omega arith) (faultless-fault _))
 rule-never-23 s slot = gate-not _ _ _ _ (omega arith) (faultless-fault _)
@@ -90,7 +89,7 @@ slot-answer-not : (stamp : ℕ) (g : Grant) (r : Refusal) → slotAnswer stamp g
 slot-answer-not stamp Nobody r e = let z : _≡_ {A = ℕ} 0 1 = cc in omega arith
 slot-answer-not stamp (Place p) r e = let z : _≡_ {A = ℕ} 0 1 = cc in omega arith
 
-pub ruled-never-23 : (s : Arbiter) (c : Call) → ruled s c .answer ≡ refused (refusal 23) → ⊥
+pub ruled-never-23 : (s : State) (c : Call) → ruled s c .answer ≡ refused (refusal 23) → ⊥
 ruled-never-23 s c = by-kind (λ c u a. a ≡ refused (refusal 23) → ⊥) s c
     (λ r e x. rule-never-23 s c (cc))
     (λ p count e x. let z : _≡_ {A = ℕ} 0 1 = cc in omega arith)

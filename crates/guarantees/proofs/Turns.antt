@@ -5,16 +5,16 @@ use Prim.Native.Nat.{ℕ, zero, suc, _+_, _<_}
 use native.Mathlib.Nat.{not-suc-le-zero}
 use native.Mathlib.Omega.{arith}
 use lib.ListN.{length}
-use Rattle.arbiter.specs.declared.table.Requestor.{Requestor}
-use Rattle.arbiter.specs.declared.state.Account.{Account}
-use Rattle.arbiter.specs.State.{credit, backlog, accountAt}
-use Rattle.arbiter.specs.Table.{requestorAt}
+use Rattle.terms.specs.declared.place.Requestor.{Requestor}
+use Rattle.terms.specs.declared.place.Account.{Account}
+use Rattle.terms.specs.State.{credit, backlog, accountAt}
+use Rattle.terms.specs.Table.{requestorAt}
 use Rattle.rule.specs.declared.rule.Grant.the-variants.{Nobody}
 use Rattle.rule.specs.Rule.{firstEligible, served, after}
 use Rattle.rule.proofs.Accounts.{passed-waiting}
-use Rattle.run.proofs.Head.{slotted, Passed, by-head}
+use Rattle.rule.proofs.Head.{slotted, Passed, by-head}
 use Rattle.rule.specs.Grants.{toPlace, toFirst}
-use Rattle.run.proofs.Grants.{to-first-zero}
+use Rattle.rule.proofs.Grants.{to-first-zero}
 
 pub data Turn (d p : ℕ) (rs : List Requestor) (accounts : List Account) : Type 0 where
   above : toFirst p (firstEligible d rs accounts) ≡ 1 → toPlace p (firstEligible d rs accounts) ≡ 0

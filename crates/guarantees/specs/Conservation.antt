@@ -4,10 +4,10 @@ use mathlib.Core.List.{List, [], _∷_}
 use Prim.Native.Nat.{ℕ, _+_}
 use lib.Dec.{eqb}
 use Rattle.lists.specs.Choices.{pick}
-use Rattle.arbiter.specs.declared.table.Table.{Table}
-use Rattle.arbiter.specs.Answers.{Answer, accepted, granted, idle, refused}
-use Rattle.arbiter.specs.State.{backlog, accountAt}
-use Rattle.calls.specs.Calls.{Call, post, slot}
+use Rattle.terms.specs.Table.{Table}
+use Rattle.terms.specs.Answers.{Answer, accepted, granted, idle, refused}
+use Rattle.terms.specs.State.{backlog, accountAt}
+use Rattle.rule.specs.Calls.{Call, post, slot}
 use Rattle.guarantees.specs.Counts.{grantsTo, Accepted, startState, stateAfter, heardFrom}
 
 -- the transfers that a call with this answer brought to place p

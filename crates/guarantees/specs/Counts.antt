@@ -6,15 +6,14 @@ use Prim.Native.Nat.{ℕ, zero, suc, _<_}
 use lib.ListN.{length}
 use Rattle.lists.specs.Sums.{total}
 use Rattle.lists.specs.Runs
-use Rattle.arbiter.specs.declared.table.Table.{Table}
-use Rattle.arbiter.specs.declared.state.Arbiter.{Arbiter}
-use Rattle.arbiter.specs.Answers.{Answer, accepted, granted, idle, refused}
-use Rattle.arbiter.specs.State.{backlog, accountAt}
-use Rattle.arbiter.specs.Start.{start}
+use Rattle.terms.specs.Table.{Table}
+use Rattle.terms.specs.State.{State, backlog, accountAt}
+use Rattle.terms.specs.Answers.{Answer, accepted, granted, idle, refused}
+use Rattle.terms.specs.Start.{start}
 use Rattle.rule.specs.declared.rule.Grant.{Grant}
 use Rattle.rule.specs.declared.rule.Grant.the-variants.{Nobody, Place}
 use Rattle.rule.specs.Grants.{toPlace, toFirst}
-use Rattle.calls.specs.Calls.{Call, ruled, called}
+use Rattle.rule.specs.Calls.{Call, ruled, called}
 
 -- f of the grant of an accepted slot, x of any other answer
 abbrev pub inSlot {ℓ} : {X : Type ℓ} → X → (Grant → X) → Answer → X
@@ -42,11 +41,11 @@ firstSlots (a ∷ heard) zero = []
 firstSlots (a ∷ heard) (suc m) = a ∷ firstSlots heard (inSlot (suc m) (λ g. m) a)
 
 -- whether a place waits is asked directly before an accepted slot, and of no other call
-abbrev pub WaitsAt : ℕ → Arbiter → Answer → Type 0
+abbrev pub WaitsAt : ℕ → State → Answer → Type 0
 WaitsAt p s = inSlot (Unit {0}) (λ g. 0 < backlog (accountAt p (s .accounts)))
 
 -- so in each accepted slot
-abbrev pub Waits : ℕ → Arbiter → List Call → Type 0
+abbrev pub Waits : ℕ → State → List Call → Type 0
 Waits p = Runs.Each ruled (WaitsAt p)
 
 -- the table and first slot number of an accepted start; an array of `limit` rows holds the table
@@ -55,12 +54,12 @@ pub record Accepted (limit : ℕ) (t : Table) (first : ℕ) : Type 0 where
   pub answer : start limit t first .answer ≡ accepted
 
 -- the state that start hands back; of an accepted start it is `opening` of the table and the first slot number
-abbrev pub startState : ℕ → Table → ℕ → Arbiter
+abbrev pub startState : ℕ → Table → ℕ → State
 startState limit t first = start limit t first .state
 
 -- the state after calls from a start, and what calls on a state answer: each gets the state that the one before handed back
-abbrev pub stateAfter : ℕ → Table → ℕ → List Call → Arbiter
+abbrev pub stateAfter : ℕ → Table → ℕ → List Call → State
 stateAfter limit t first calls = Runs.end (called limit) (startState limit t first) calls
 
-abbrev pub heardFrom : ℕ → Arbiter → List Call → List Answer
+abbrev pub heardFrom : ℕ → State → List Call → List Answer
 heardFrom limit s calls = Runs.answers (called limit) s calls

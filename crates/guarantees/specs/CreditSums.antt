@@ -6,18 +6,16 @@ use mathlib.Core.List.{List}
 use Prim.Native.Nat.{ℕ, suc, _≤_, _<_}
 use lib.ListN.{take, length}
 use Rattle.lists.specs.Sums.{total}
-use Rattle.arbiter.specs.declared.table.Table.{Table}
-use Rattle.arbiter.specs.declared.state.Arbiter.{Arbiter}
-use Rattle.arbiter.specs.Refusals.{faultless, refusal}
-use Rattle.arbiter.specs.Answers.{refused}
-use Rattle.arbiter.specs.Table.{burst, requestorsOf, tableVerdict, requestorAt}
-use Rattle.arbiter.specs.Figures.{rateLeft}
-use Rattle.arbiter.specs.State.{credit, sound}
-use Rattle.calls.specs.Calls.{Call, called}
+use Rattle.terms.specs.Table.{Table, burst, requestorsOf, tableVerdict, requestorAt}
+use Rattle.terms.specs.State.{State, credit, sound}
+use Rattle.terms.specs.Refusals.{faultless, refusal}
+use Rattle.terms.specs.Answers.{refused}
+use Rattle.terms.specs.Figures.{rateLeft}
+use Rattle.rule.specs.Calls.{Call, called}
 use Rattle.guarantees.specs.Counts.{Accepted, stateAfter}
 
 -- of a state s and the table t it was started with
-pub record Sustained (limit : ℕ) (t : Table) (s : Arbiter) : Type 0 where
+pub record Sustained (limit : ℕ) (t : Table) (s : State) : Type 0 where
   pub same-table : s .table ≡ t
   pub sums : (k : ℕ) → total credit (take (suc k) (s .accounts)) ≤ total burst (take (suc k) (t .requestors))
   pub passes-23 : sound limit s ≡ true

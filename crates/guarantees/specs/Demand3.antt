@@ -7,14 +7,12 @@ use Prim.Native.Nat.{ℕ, _+_, _*_, _≤_, _<_}
 use lib.ListN.{take}
 use Rattle.lists.specs.Sums.{total}
 use Rattle.lists.specs.Runs
-use Rattle.arbiter.specs.declared.table.Requestor.{Requestor}
-use Rattle.arbiter.specs.declared.table.Table.{Table}
-use Rattle.arbiter.specs.declared.state.Arbiter.{Arbiter}
-use Rattle.arbiter.specs.Table.{rate, burst, requestorsOf, requestorAt}
-use Rattle.arbiter.specs.Figures.{burstsAbove, rateLeft}
-use Rattle.arbiter.specs.State.{credit, accountAt}
-use Rattle.arbiter.specs.Start.{opening}
-use Rattle.calls.specs.Calls.{Call, ruled, called}
+use Rattle.terms.specs.declared.place.Requestor.{Requestor}
+use Rattle.terms.specs.Table.{Table, rate, burst, requestorsOf, requestorAt}
+use Rattle.terms.specs.State.{State, credit, accountAt}
+use Rattle.terms.specs.Figures.{burstsAbove, rateLeft}
+use Rattle.terms.specs.Start.{opening}
+use Rattle.rule.specs.Calls.{Call, ruled, called}
 use Rattle.guarantees.specs.Counts.{slotsIn, grantsTo, grantsToFirst, Waits, Accepted, startState, stateAfter, heardFrom}
 
 -- what the first k places get in L slots, D for each grant, is covered by their bursts and L times their rates
@@ -35,7 +33,7 @@ Floor d rs p L g = n * R * L ≤ R * d * g + n * B
     B = burstsAbove p rs
 
 -- what the rule works out from the table, the first slot number and the calls alone
-abbrev pub ruledAfter : Table → ℕ → List Call → Arbiter
+abbrev pub ruledAfter : Table → ℕ → List Call → State
 ruledAfter t first calls = Runs.end ruled (opening t first) calls
 
 pub record Demand3 (limit : ℕ) (t : Table) (first : ℕ) (before inside : List Call) : Type 0 where

@@ -8,18 +8,17 @@ use lib.Dec.{ltb, eqb}
 use lib.ListN.{take}
 use Rattle.lists.specs.Choices.{pick}
 use Rattle.lists.specs.Runs
-use Rattle.arbiter.specs.declared.refusals.Refusal.{Refusal}
-use Rattle.arbiter.specs.declared.table.Table.{Table}
-use Rattle.arbiter.specs.declared.state.Account.{Account}
-use Rattle.arbiter.specs.declared.state.Arbiter.{Arbiter}
-use Rattle.arbiter.specs.Answers.{Answer, accepted, granted, idle, refused}
-use Rattle.arbiter.specs.State.{accountAt}
-use Rattle.calls.specs.Calls.{Call, post, slot, called}
+use Rattle.terms.specs.declared.refusals.Refusal.{Refusal}
+use Rattle.terms.specs.Table.{Table}
+use Rattle.terms.specs.declared.place.Account.{Account}
+use Rattle.terms.specs.State.{State, accountAt}
+use Rattle.terms.specs.Answers.{Answer, accepted, granted, idle, refused}
+use Rattle.rule.specs.Calls.{Call, post, slot, called}
 use Rattle.guarantees.specs.Counts.{Accepted, startState}
 
 -- a post by itself: it leaves every account but that of its own place, above it or below. What it does to later grants is said further down, of whole lists of calls.
 abbrev pub Post-apart : Type 0
-Post-apart = (limit : ℕ) (s : Arbiter) (p count i : ℕ) → (i ≡ p → ⊥)
+Post-apart = (limit : ℕ) (s : State) (p count i : ℕ) → (i ≡ p → ⊥)
     → accountAt i (called limit s (post p count) .state .accounts) ≡ accountAt i (s .accounts)
 
 abbrev pub keep : Bool → Call → List Call → List Call
@@ -55,12 +54,12 @@ pub record Shown : Type 0 where
   pub accounts : List Account
   pub answer : View
 
-unfoldable pub shows : ℕ → Call → Runs.Result Arbiter Answer → List Shown → List Shown
+unfoldable pub shows : ℕ → Call → Runs.Result State Answer → List Shown → List Shown
 shows m slot r rest = record { accounts = take m (r .state .accounts); answer = view m (r .answer) } ∷ rest
 shows m (post p count) r rest = rest
 
 -- after each slot of a list of calls
-unfoldable pub shown : (Arbiter → Call → Runs.Result Arbiter Answer) → ℕ → Arbiter → List Call → List Shown
+unfoldable pub shown : (State → Call → Runs.Result State Answer) → ℕ → State → List Call → List Shown
 shown step m s [] = []
 shown step m s (c ∷ cs) = shows m c (step s c) (shown step m (step s c .state) cs)
 

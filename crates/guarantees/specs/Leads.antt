@@ -7,14 +7,12 @@ use Prim.Native.Nat.{ℕ, zero, suc, _*_, _≤_, _<_}
 use lib.IntN.{ℤ, pos, negℤ, _+ℤ_, _*ℤ_}
 use lib.ListN.{length, take}
 use Rattle.lists.specs.Sums.{total}
-use Rattle.arbiter.specs.declared.table.Table.{Table}
-use Rattle.arbiter.specs.declared.state.Arbiter.{Arbiter}
-use Rattle.arbiter.specs.Answers.{accepted}
-use Rattle.arbiter.specs.Table.{burst, requestorAt, requestorsOf}
-use Rattle.arbiter.specs.Figures.{burstsAbove, rateLeft}
-use Rattle.arbiter.specs.State.{credit, accountAt, Shaped}
-use Rattle.leads.specs.Lead.{leadIn}
-use Rattle.run.specs.Log.{run}
+use Rattle.terms.specs.Table.{Table, burst, requestorAt, requestorsOf}
+use Rattle.terms.specs.State.{State, credit, accountAt, Shaped}
+use Rattle.terms.specs.Answers.{accepted}
+use Rattle.terms.specs.Figures.{burstsAbove, rateLeft}
+use Rattle.lead_parts.specs.Lead.{leadIn}
+use Rattle.rule.specs.Log.{run}
 use Rattle.guarantees.specs.Counts.{Waits}
 use Rattle.guarantees.specs.RunSlots.{slots}
 
@@ -40,7 +38,7 @@ WaitingLead t p log = AtMost (negℤ (pos (n * B))) (pos R *ℤ leadIn t p log)
     B : ℕ
     B = burstsAbove p (requestorsOf t)
 
-pub record Leads (limit : ℕ) (s : Arbiter) (old : List ℕ) : Type 0 where
+pub record Leads (limit : ℕ) (s : State) (old : List ℕ) : Type 0 where
   pub summed : (k : ℕ) → k ≤ s .table .count
       → AtMost (summedLeads (s .table) k (run limit s old .log)) (pos (total burst (take k (requestorsOf (s .table)))))
   pub waiting : (p : ℕ) → p < s .table .count → Waits p s (slots (length old)) → s .table .denominator ≤ credit (accountAt p (s .accounts))
@@ -48,4 +46,4 @@ pub record Leads (limit : ℕ) (s : Arbiter) (old : List ℕ) : Type 0 where
 
 -- `limit` leaves 255 to idle slots
 abbrev pub Leads-of-a-run : Type 0
-Leads-of-a-run = (limit : ℕ) (s : Arbiter) (old : List ℕ) → limit ≤ 255 → Shaped limit s → run limit s old .answer ≡ accepted → Leads limit s old
+Leads-of-a-run = (limit : ℕ) (s : State) (old : List ℕ) → limit ≤ 255 → Shaped limit s → run limit s old .answer ≡ accepted → Leads limit s old

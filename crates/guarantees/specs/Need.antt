@@ -4,18 +4,16 @@ use mathlib.Core.Path.{_≡_}
 use mathlib.Core.Bool.{true}
 use mathlib.Core.List.{List}
 use Prim.Native.Nat.{ℕ, _≤_, _<_}
-use Rattle.arbiter.specs.declared.table.Table.{Table}
-use Rattle.arbiter.specs.declared.state.Arbiter.{Arbiter}
-use Rattle.arbiter.specs.Answers.{Answer}
-use Rattle.arbiter.specs.Table.{requestorsOf, requestorAt}
-use Rattle.arbiter.specs.Figures.{finish}
-use Rattle.arbiter.specs.State.{backlog, accountAt, sound, Shaped}
-use Rattle.calls.specs.Calls.{Call}
+use Rattle.terms.specs.Table.{Table, requestorsOf, requestorAt}
+use Rattle.terms.specs.State.{State, backlog, accountAt, sound, Shaped}
+use Rattle.terms.specs.Answers.{Answer}
+use Rattle.terms.specs.Figures.{finish}
+use Rattle.rule.specs.Calls.{Call}
 use Rattle.guarantees.specs.Counts.{slotsIn, grantsTo, firstSlots, Accepted, stateAfter, heardFrom}
 
 -- j transfers wait together at place p. The paper's need is entered with credit at least D; at the finish figure it holds from
 -- any credit, and so does what follows here.
-pub record Pending (s : Arbiter) (p j : ℕ) : Type 0 where
+pub record Pending (s : State) (p j : ℕ) : Type 0 where
   pub place : p < s .table .count
   pub waiting : j ≤ backlog (accountAt p (s .accounts))
 
@@ -25,7 +23,7 @@ GrantedWithin slots heard p j = slots ≤ slotsIn heard → j ≤ grantsTo p (fi
 
 -- from any sound state, at the finish figure
 abbrev pub Need-from-sound : Type 0
-Need-from-sound = (limit : ℕ) (s : Arbiter) → Shaped limit s → sound limit s ≡ true → (inside : List Call) (p j : ℕ) → Pending s p j
+Need-from-sound = (limit : ℕ) (s : State) → Shaped limit s → sound limit s ≡ true → (inside : List Call) (p j : ℕ) → Pending s p j
     → GrantedWithin (finish (s .table .denominator) (requestorsOf (s .table)) p j) (heardFrom limit s inside) p j
 
 -- from an accepted start, after any calls, at the finish figure

@@ -5,12 +5,11 @@ use mathlib.Core.List.{List, _++_, map}
 use Prim.Native.Nat.{ℕ}
 use lib.ListN.{length, replicate}
 use Rattle.lists.specs.Runs
-use Rattle.arbiter.specs.declared.table.Table.{Table}
-use Rattle.arbiter.specs.declared.state.Arbiter.{Arbiter}
-use Rattle.arbiter.specs.Answers.{Answer, accepted}
-use Rattle.arbiter.specs.State.{Shaped}
-use Rattle.calls.specs.Calls.{Call, slot, called}
-use Rattle.run.specs.Log.{grantByte, run}
+use Rattle.terms.specs.Table.{Table}
+use Rattle.terms.specs.State.{State, Shaped}
+use Rattle.terms.specs.Answers.{Answer, accepted}
+use Rattle.rule.specs.Calls.{Call, slot, called}
+use Rattle.rule.specs.Log.{grantByte, run}
 use Rattle.guarantees.specs.Counts.{inSlot, slotsIn, Accepted, stateAfter, heardFrom}
 
 -- so many calls of slot
@@ -22,13 +21,13 @@ slots k = replicate k slot
 abbrev pub answerByte : Answer → ℕ
 answerByte = inSlot 255 grantByte
 
-pub record AsSlots (limit : ℕ) (s : Arbiter) (old : List ℕ) : Type 0 where
+pub record AsSlots (limit : ℕ) (s : State) (old : List ℕ) : Type 0 where
   pub log : run limit s old .log ≡ map answerByte (heardFrom limit s (slots (length old)))
   pub state : run limit s old .state ≡ Runs.end (called limit) s (slots (length old))
   pub all-accepted : slotsIn (heardFrom limit s (slots (length old))) ≡ length old
 
 abbrev pub Run-is-slots : Type 0
-Run-is-slots = (limit : ℕ) (s : Arbiter) (old : List ℕ) → Shaped limit s → run limit s old .answer ≡ accepted → AsSlots limit s old
+Run-is-slots = (limit : ℕ) (s : State) (old : List ℕ) → Shaped limit s → run limit s old .answer ≡ accepted → AsSlots limit s old
 
 -- also after any calls from an accepted start, whose state has its shape: so demand 3 speaks of the run, with `inside` its slots
 abbrev pub Run-from-start : Type 0
@@ -36,11 +35,11 @@ Run-from-start = (limit : ℕ) (t : Table) (first : ℕ) → Accepted limit t fi
     → run limit (stateAfter limit t first before) old .answer ≡ accepted → AsSlots limit (stateAfter limit t first before) old
 
 -- a run over `one` and then, on the state that it hands back, a run over `two`
-pub record Split (limit : ℕ) (s : Arbiter) (one two : List ℕ) : Type 0 where
+pub record Split (limit : ℕ) (s : State) (one two : List ℕ) : Type 0 where
   pub first-accepted : run limit s one .answer ≡ accepted
   pub second-accepted : run limit (run limit s one .state) two .answer ≡ accepted
   pub log : run limit s (one ++ two) .log ≡ run limit s one .log ++ run limit (run limit s one .state) two .log
   pub state : run limit s (one ++ two) .state ≡ run limit (run limit s one .state) two .state
 
 abbrev pub Run-splits : Type 0
-Run-splits = (limit : ℕ) (s : Arbiter) (one two : List ℕ) → Shaped limit s → run limit s (one ++ two) .answer ≡ accepted → Split limit s one two
+Run-splits = (limit : ℕ) (s : State) (one two : List ℕ) → Shaped limit s → run limit s (one ++ two) .answer ≡ accepted → Split limit s one two

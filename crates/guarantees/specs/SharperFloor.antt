@@ -5,12 +5,11 @@ use mathlib.Core.Bool.{true}
 use mathlib.Core.List.{List}
 use mathlib.Core.Logic.{_⊎_}
 use Prim.Native.Nat.{ℕ, _+_, _*_, _≤_, _<_}
-use Rattle.arbiter.specs.declared.table.Requestor.{Requestor}
-use Rattle.arbiter.specs.declared.state.Arbiter.{Arbiter}
-use Rattle.arbiter.specs.Table.{requestorsOf, requestorAt}
-use Rattle.arbiter.specs.Figures.{burstsAbove, rateLeft}
-use Rattle.arbiter.specs.State.{credit, accountAt, sound, Shaped}
-use Rattle.calls.specs.Calls.{Call}
+use Rattle.terms.specs.declared.place.Requestor.{Requestor}
+use Rattle.terms.specs.State.{State, credit, accountAt, sound, Shaped}
+use Rattle.terms.specs.Table.{requestorsOf, requestorAt}
+use Rattle.terms.specs.Figures.{burstsAbove, rateLeft}
+use Rattle.rule.specs.Calls.{Call}
 use Rattle.guarantees.specs.Counts.{slotsIn, grantsTo, Waits, heardFrom}
 
 -- Either D × g is at least R × L − B, or R × D × g is at least R × (c + n × L − D + 1) − n × B; each subtraction stands as an
@@ -24,7 +23,7 @@ Sharper d rs p c L g = Sharp d (requestorAt p rs .rate) (rateLeft d p rs) (burst
 
 -- from any sound state, for a place that waits in each slot of the stretch
 abbrev pub Sharper-floor : Type 0
-Sharper-floor = (limit : ℕ) (s : Arbiter) → Shaped limit s → sound limit s ≡ true → (inside : List Call) (p : ℕ)
+Sharper-floor = (limit : ℕ) (s : State) → Shaped limit s → sound limit s ≡ true → (inside : List Call) (p : ℕ)
     → p < s .table .count → Waits p s inside
     → Sharper (s .table .denominator) (requestorsOf (s .table)) p (credit (accountAt p (s .accounts)))
     (slotsIn (heardFrom limit s inside)) (grantsTo p (heardFrom limit s inside))

@@ -3,9 +3,9 @@ use mathlib.Core.Path.{_≡_}
 use mathlib.Core.List.{List, [], _∷_}
 use Prim.Native.Nat.{ℕ, zero, suc, _+_, _<_}
 use lib.ListN.{length, getD}
-use Rattle.arbiter.specs.declared.table.Table.{Table}
-use Rattle.arbiter.specs.Answers.{Answer, accepted, granted, idle, refused}
-use Rattle.calls.specs.Calls.{Call}
+use Rattle.terms.specs.Table.{Table}
+use Rattle.terms.specs.Answers.{Answer, accepted, granted, idle, refused}
+use Rattle.rule.specs.Calls.{Call}
 use Rattle.guarantees.specs.Counts.{slotsIn, Accepted, startState, heardFrom}
 
 -- the stamps in the answers, in order

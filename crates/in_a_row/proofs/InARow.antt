@@ -2,8 +2,8 @@
 -- follow the first. Assumes nothing.
 use mathlib.Core.Path.{_≡_, refl, ap, sym, _∙_}
 use mathlib.Core.Bool.{Bool, true, false}
-use mathlib.Core.List.{List, [], _∷_, _++_}
-use Prim.Native.Nat.{ℕ, zero, suc, _+_, _≤_, _<_}
+use mathlib.Core.List.{List, [], _++_}
+use Prim.Native.Nat.{ℕ, zero, suc, _+_, _≤_}
 use native.Mathlib.Omega.{arith}
 use borrow.Author.Tests.{lt-leb}
 use lib.Dec.{leb, eqb}
@@ -14,15 +14,14 @@ use Rattle.groups.specs.declared.reading.Reading as number
 use Rattle.groups.specs.declared.reading.Reading.the-variants.{Number, Ended, Malformed}
 use Rattle.groups.specs.Groups.{numberOf}
 use Rattle.groups.proofs.Readings.{number-takes, number-some}
-use Rattle.arbiter.specs.declared.state.Arbiter.{Arbiter}
-use Rattle.arbiter.specs.Refusals.{Verdict, faultless, fault, refusal, gate, resolve}
-use Rattle.arbiter.specs.Answers.{Answer, accepted, granted, idle, refused, unless}
-use Rattle.arbiter.specs.State.{sound}
-use Rattle.arbiter.specs.Limits.{maxInput}
-use Rattle.arbiter.specs.Start.{noState, start}
-use Rattle.arbiter.specs.Input.{inputVerdict}
-use Rattle.arbiter.proofs.Checks.{fair}
-use Rattle.arbiter.proofs.Sound.{sound-table}
+use Rattle.terms.specs.State.{State, sound}
+use Rattle.terms.specs.Refusals.{Verdict, faultless, fault, refusal, gate, resolve}
+use Rattle.terms.specs.Answers.{Answer, accepted, granted, idle, refused, unless}
+use Rattle.terms.specs.Limits.{maxInput}
+use Rattle.terms.specs.Start.{noState, start}
+use Rattle.terms.specs.Input.{inputVerdict}
+use Rattle.terms.proofs.Checks.{fair}
+use Rattle.terms.proofs.Sound.{sound-table}
 use Rattle.table_bytes.specs.Reading.{Read, read, stop, next, readAs, numberRead, itemsRead, TableRead, readTable}
 use Rattle.table_bytes.proofs.Accepted.{stop-read, next-open, read-same}
 use Rattle.reads.specs.Reads.{countsRead, startRead, stateRead, begun}
@@ -62,14 +61,14 @@ abbrev pub follows : Step → ℕ
 follows (more text s rest) = suc (length rest)
 follows (last text s) = 0
 
-told-leaves : (s : Arbiter) (answer : Answer) (after : Arbiter) (rest : List ℕ) → follows (slotTold s answer after rest) ≤ suc (length rest)
+told-leaves : (s : State) (answer : Answer) (after : State) (rest : List ℕ) → follows (slotTold s answer after rest) ≤ suc (length rest)
 unfolding slotTold
 told-leaves s (granted stamp p) after rest = omega arith
 told-leaves s (idle stamp) after rest = omega arith
 told-leaves s (refused why) after rest = omega arith
 told-leaves s accepted after rest = omega arith
 
-slot-leaves : (limit : ℕ) (s : Arbiter) (bytes : List ℕ) → 1 ≤ s .table .count → follows (slotStep limit s (countsRead (s .table .count) bytes)) ≤ length bytes
+slot-leaves : (limit : ℕ) (s : State) (bytes : List ℕ) → 1 ≤ s .table .count → follows (slotStep limit s (countsRead (s .table .count) bytes)) ≤ length bytes
 unfolding slotStep
 slot-leaves limit s bytes some = told (countsRead (s .table .count) bytes) refl where
   told : (r : Read (List ℕ)) → countsRead (s .table .count) bytes ≡ r → follows (slotStep limit s r) ≤ length bytes
@@ -78,7 +77,7 @@ slot-leaves limit s bytes some = told (countsRead (s .table .count) bytes) refl 
       omega (arith, told-leaves s (done .answer) (done .state) rest, items-shorter (s .table .count) 0 bytes counts rest e)
   told (stop why) e = omega arith
 
-pub step-leaves : (limit : ℕ) (s : Arbiter) (rest : List ℕ) → follows (step limit s rest) ≤ length rest
+pub step-leaves : (limit : ℕ) (s : State) (rest : List ℕ) → follows (step limit s rest) ≤ length rest
 unfolding step
 step-leaves limit s rest = by-sound (sound limit s) refl where
   by-end : (ended : Bool) → 1 ≤ s .table .count → follows (pick ended (last (endLine (s .slot .0)) s) (slotStep limit s (countsRead (s .table .count) rest))) ≤ length rest
@@ -95,13 +94,13 @@ step-leaves limit s rest = by-sound (sound limit s) refl where
 start-leaves : (limit : ℕ) (r : TableRead) (rest : List ℕ) → follows (headed limit (startRead limit r rest)) ≤ suc (length rest)
 unfolding startRead headed
 start-leaves limit r rest = by-table (r .answer) where
-  by-start : (a : Answer) (s : Arbiter) → follows (headed limit (unless a stop (read s rest))) ≤ suc (length rest)
+  by-start : (a : Answer) (s : State) → follows (headed limit (unless a stop (read s rest))) ≤ suc (length rest)
   by-start accepted s = omega arith
   by-start (granted stamp p) s = omega arith
   by-start (idle stamp) s = omega arith
   by-start (refused why) s = omega arith
 
-  begun-state : Result Arbiter Answer
+  begun-state : Result State Answer
   begun-state = start limit (r .table) 0
 
   by-table : (a : Answer) → follows (headed limit (unless a stop (unless (begun-state .answer) stop (read (begun-state .state) rest)))) ≤ suc (length rest)

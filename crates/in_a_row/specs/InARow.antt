@@ -4,8 +4,8 @@ use mathlib.Core.Path.{_≡_}
 use mathlib.Core.List.{List, _++_}
 use Prim.Native.Nat.{ℕ, zero, suc, _≤_, _<_}
 use lib.ListN.{length}
-use Rattle.arbiter.specs.Limits.{maxInput}
-use Rattle.arbiter.specs.Refusals.{refusal}
+use Rattle.terms.specs.Limits.{maxInput}
+use Rattle.terms.specs.Refusals.{refusal}
 use Rattle.lines.specs.Lines.{header, refusedLine}
 use Rattle.listing.specs.Listing.{Step, more, last, step, firstStep, listing}
 

@@ -1,15 +1,17 @@
 // The thin form of slot: the unit's main loop lends the arbiter's state and finds it advanced by one slot.
 use arbiter::state::Arbiter;
-use calls::slot::SlotAnswer;
 use calls::slot::SlotResult;
 use calls::slot::slot;
+use terms::answers::SlotAnswer;
 ghost use mathlib.Core.Path.{_≡_};
-ghost use Rattle.arbiter.specs.Limits.{maxPlaces};
-ghost use Rattle.calls.specs.Calls.{slot, called, slotResultOf};
+ghost use Rattle.terms.specs.Limits.{maxPlaces};
+ghost use Rattle.arbiter.specs.ByValue.{held};
+ghost use Rattle.rule.specs.Calls.{slot, called};
+ghost use Rattle.calls.specs.ByValue.{slotResultOf};
 
 // The lent state is what the by-value slot hands back, and the answer is its answer. Refused, 23 and 22: the state is as it was.
 pub fn slot_in_place(s: &mut Arbiter) -> SlotAnswer
-    ensures { λ a. ⌜ slotResultOf (record { state = now (s .exit); answer = a }) ≡ called maxPlaces (now (s .entry)) slot ⌝ }
+    ensures { λ a. ⌜ slotResultOf (record { state = now (s .exit); answer = a }) ≡ called maxPlaces (held (now (s .entry))) slot ⌝ }
 {
     let done = slot(*s);
     *s = done.state;
@@ -18,7 +20,7 @@ pub fn slot_in_place(s: &mut Arbiter) -> SlotAnswer
 
 // For a caller that holds the state by value: a local is lent to the thin form and handed back.
 pub fn slot_of_a_loan(s: Arbiter) -> SlotResult
-    ensures { λ r. ⌜ slotResultOf r ≡ called maxPlaces s slot ⌝ }
+    ensures { λ r. ⌜ slotResultOf r ≡ called maxPlaces (held s) slot ⌝ }
 {
     let mut state = s;
     let answer = slot_in_place(&mut state);

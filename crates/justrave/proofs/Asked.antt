@@ -9,13 +9,12 @@ use lib.Dec.{eqb}
 use lib.IntN.{ℤ}
 use lib.ListN.{length, set}
 use Rattle.lists.specs.Choices.{pick}
-use Rattle.arbiter.specs.declared.refusals.Refusal.{Refusal}
-use Rattle.arbiter.specs.declared.state.Account.{Account}
-use Rattle.arbiter.specs.declared.state.Arbiter.{Arbiter}
-use Rattle.arbiter.specs.Refusals.{refusal}
-use Rattle.arbiter.specs.State.{sound}
-use Rattle.arbiter.specs.Asked as asked
-use Rattle.leads.specs.Lead as leads
+use Rattle.terms.specs.declared.refusals.Refusal.{Refusal}
+use Rattle.terms.specs.declared.place.Account.{Account}
+use Rattle.terms.specs.State.{State, sound}
+use Rattle.terms.specs.Refusals.{refusal}
+use Rattle.terms.specs.Asked as asked
+use Rattle.lead_parts.specs.Lead as leads
 use Rattle.table_bytes.specs.Writing as writing
 use Rattle.layout.specs.Words.{roomOf, rightLength, stateOf}
 use Rattle.asking.specs.Look as look
@@ -36,7 +35,7 @@ module _ (most : ℕ) (words : List ℕ) where
   abbrev room : ℕ
   room = roomOf words
 
-  abbrev s : Arbiter
+  abbrev s : State
   s = stateOf words
 
   -- the lent answer has its length
@@ -117,7 +116,7 @@ module _ (most : ℕ) (words : List ℕ) where
     abbrev write-down : Wrote
     write-down = record { buffer = buffer; answer = old; outcome = wrongLength }
 
-    abbrev write-call : ℕ → Arbiter → Wrote
+    abbrev write-call : ℕ → State → Wrote
     write-call limit s = pick (sound limit s) (writeTold old (writing.writeTable limit (s .table) buffer)) (record { buffer = buffer; answer = old; outcome = refusalCode (refusal 23) })
 
     pub write-shut : hold ≡ false → write-down ≡ wrote most words buffer old

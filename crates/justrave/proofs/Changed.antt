@@ -8,30 +8,29 @@ use native.Mathlib.Omega.{arith}
 use lib.Dec.{eqb}
 use lib.ListN.{length}
 use Rattle.lists.specs.Runs.{Result}
-use Rattle.arbiter.specs.declared.refusals.Refusal.{Refusal}
-use Rattle.arbiter.specs.declared.state.Arbiter.{Arbiter}
-use Rattle.arbiter.specs.Refusals.{Verdict, faultless, fault, refusal, gate}
-use Rattle.arbiter.specs.Answers.{Answer, granted, refused}
-use Rattle.arbiter.specs.State.{sound}
-use Rattle.arbiter.proofs.Checks.{gate-open}
-use Rattle.arbiter.proofs.Sound.{sound-open}
+use Rattle.terms.specs.declared.refusals.Refusal.{Refusal}
+use Rattle.terms.specs.State.{State, sound}
+use Rattle.terms.specs.Refusals.{Verdict, faultless, fault, refusal, gate}
+use Rattle.terms.specs.Answers.{Answer, granted, refused}
+use Rattle.terms.proofs.Checks.{gate-open}
+use Rattle.terms.proofs.Sound.{sound-open}
 use Rattle.rule.specs.declared.rule.Grant.{Grant}
 use Rattle.rule.specs.declared.rule.Grant.the-variants.{Nobody, Place}
-use Rattle.calls.specs.Calls.{Call, post, slot, grantOf, slotAnswer, done, ruleVerdict, outcome, called}
-use Rattle.run.specs.Log.{Outcome, run}
-use Rattle.run.proofs.Logs.{byte-fits}
+use Rattle.rule.specs.Calls.{post, slot, grantOf, slotAnswer, done, ruleVerdict, outcome, called}
+use Rattle.rule.specs.Log.{Outcome, run}
+use Rattle.rule.proofs.Logs.{byte-fits}
 use Rattle.layout.specs.Words.{roomOf, rightLength, stateWords, stateOf}
 use Rattle.layout.proofs.RoundTrip.{words-shaped, state-written-back}
 use Rattle.layout.proofs.Stores.{right-stands}
 use Rattle.outcomes.specs.Outcomes.{answerCode, wrongLength}
-use Rattle.outcomes.specs.Places.{Below, Told}
+use Rattle.outcomes.specs.Places.{Below}
 use Rattle.outcomes.proofs.Numbering.{below-more}
 use Rattle.outcomes.proofs.Places.{calls-name-below, runs-name-below}
 use Rattle.justrave.specs.Exported.{Stated, stated, posted, Slotted, slotWords, slotStated, slotted, Ran, runStated, ran}
 use Rattle.justrave.proofs.Lengths.{lent-right, lent-room, lent-shut, lent-open}
 
 -- words that are read as a state are its words
-pub words-are : (most : ℕ) (words left : List ℕ) (s : Arbiter) → rightLength most words ≡ true → length left ≡ length words → stateOf left ≡ s → left ≡ stateWords s
+pub words-are : (most : ℕ) (words left : List ℕ) (s : State) → rightLength most words ≡ true → length left ≡ length words → stateOf left ≡ s → left ≡ stateWords s
 words-are most words left s ok long e = sym (state-written-back most left (right-stands most words left long ok)) ∙ ap stateWords e
 
 module _ (most : ℕ) (words : List ℕ) where
@@ -46,7 +45,7 @@ module _ (most : ℕ) (words : List ℕ) where
     post-shut z = lent-shut most words true hold e post-down (λ limit s. stated (called limit s (post p count))) z
 
     module _ (z : hold ≡ true) (left : List ℕ) (a : Answer) (long : length left ≡ length words)
-        (f : _≡_ {A = Result Arbiter Answer} (record { state = stateOf left; answer = a }) (called (roomOf words) (stateOf words) (post p count))) where
+        (f : _≡_ {A = Result State Answer} (record { state = stateOf left; answer = a }) (called (roomOf words) (stateOf words) (post p count))) where
       pub post-told : (o : ℕ) → o ≡ answerCode a → _≡_ {A = Stated} (record { words = left; outcome = o }) (posted most words p count)
       unfolding posted
       post-told o b =
@@ -70,7 +69,7 @@ module _ (most : ℕ) (words : List ℕ) where
     slot-shut z = lent-shut most words (eqb (length old) 2) hold e slot-down (λ limit s. slotStated old (called limit s slot)) z
 
     module _ (z : hold ≡ true) (left : List ℕ) (a : Answer) (long : length left ≡ length words)
-        (f : _≡_ {A = Result Arbiter Answer} (record { state = stateOf left; answer = a }) (called (roomOf words) (stateOf words) slot)) where
+        (f : _≡_ {A = Result State Answer} (record { state = stateOf left; answer = a }) (called (roomOf words) (stateOf words) slot)) where
       pub slot-told : (answer : List ℕ) (o : ℕ) → answer ≡ slotWords old a → o ≡ answerCode a
           → _≡_ {A = Slotted} (record { words = left; answer = answer; outcome = o }) (slotted most words old)
       unfolding slotted
@@ -109,7 +108,7 @@ module _ (most : ℕ) (words : List ℕ) where
           (runs-name-below (roomOf words) (stateOf words) old r (ap (λ x. x .answer) (sym f) ∙ h) .place)
 
 -- the place that a slot grants has a byte, so that one more fits
-granted-by : (s : Arbiter) (v : Verdict) (stamp p : ℕ) → outcome v s slot .answer ≡ granted stamp p → (v ≡ faultless) × (grantOf s ≡ Place p)
+granted-by : (s : State) (v : Verdict) (stamp p : ℕ) → outcome v s slot .answer ≡ granted stamp p → (v ≡ faultless) × (grantOf s ≡ Place p)
 unfolding done
 granted-by s faultless stamp p e = (refl, by (grantOf s) e)
   where
@@ -118,8 +117,8 @@ granted-by s faultless stamp p e = (refl, by (grantOf s) e)
     by (Place q) f = let same : q ≡ p = cc in ap Place same
 granted-by s (fault r) stamp p e = let z : _≡_ {A = ℕ} 0 1 = cc in absurd (omega arith)
 
-pub granted-small : (words : List ℕ) (a : Answer) (left : Arbiter) → roomOf words ≤ 255
-    → _≡_ {A = Result Arbiter Answer} (record { state = left; answer = a }) (called (roomOf words) (stateOf words) slot) → (stamp p : ℕ) → a ≡ granted stamp p → p < 256
+pub granted-small : (words : List ℕ) (a : Answer) (left : State) → roomOf words ≤ 255
+    → _≡_ {A = Result State Answer} (record { state = left; answer = a }) (called (roomOf words) (stateOf words) slot) → (stamp p : ℕ) → a ≡ granted stamp p → p < 256
 unfolding called
 granted-small words a left few f stamp p h =
     let s = stateOf words in

@@ -8,7 +8,7 @@ use borrow.Author.Tests.{eqb-true}
 use lib.Dec.{eqb}
 use lib.ListN.{length, set}
 use Rattle.lists.proofs.Tests.{and-true}
-use Rattle.arbiter.specs.declared.state.Arbiter.{Arbiter}
+use Rattle.terms.specs.State.{State}
 use Rattle.layout.specs.Words.{roomOf, rightLength, stateOf}
 use Rattle.layout.proofs.RoundTrip.{right}
 use Rattle.justrave.specs.Exported.{onState}
@@ -24,7 +24,7 @@ module _ (most : ℕ) (words : List ℕ) (beside hold : Bool) (e : hold ≡ (rig
   pub lent-beside : hold ≡ true → beside ≡ true
   lent-beside z = and-true (rightLength most words) beside (sym e ∙ z) .1
 
-  module _ {X : Type 0} (down : X) (call : ℕ → Arbiter → X) where
+  module _ {X : Type 0} (down : X) (call : ℕ → State → X) where
     pub lent-shut : hold ≡ false → down ≡ onState most words beside down call
     unfolding onState
     lent-shut z = rw (sym e ∙ z)

@@ -5,10 +5,10 @@ use mathlib.Core.List.{List}
 use Prim.Native.Nat.{ℕ}
 use lib.ListN.{length}
 use Rattle.lists.specs.Runs.{Result}
-use Rattle.arbiter.specs.declared.refusals.Refusal.{Refusal}
-use Rattle.arbiter.specs.declared.state.Arbiter.{Arbiter}
-use Rattle.arbiter.specs.Answers.{Answer, refused}
-use Rattle.arbiter.specs.Start.{start}
+use Rattle.terms.specs.declared.refusals.Refusal.{Refusal}
+use Rattle.terms.specs.State.{State}
+use Rattle.terms.specs.Answers.{Answer, refused}
+use Rattle.terms.specs.Start.{start}
 use Rattle.table_bytes.specs.Reading.{readTable}
 use Rattle.layout.specs.Words.{roomOf, rightLength, stateOf}
 use Rattle.layout.specs.Numbers.{numbersTable, rightNumbers}
@@ -33,8 +33,8 @@ module _ (most : ℕ) (words : List ℕ) (first : ℕ) (hold : Bool) (e : hold �
       shut false h = refl
 
   -- what was left is the state's words
-  left-so : hold ≡ true → (left : List ℕ) (a : Answer) (made : Result Arbiter Answer) → length left ≡ length words
-      → _≡_ {A = Result Arbiter Answer} (record { state = stateOf left; answer = a }) made → (o : ℕ) → o ≡ answerCode a
+  left-so : hold ≡ true → (left : List ℕ) (a : Answer) (made : Result State Answer) → length left ≡ length words
+      → _≡_ {A = Result State Answer} (record { state = stateOf left; answer = a }) made → (o : ℕ) → o ≡ answerCode a
       → _≡_ {A = Stated} (record { words = left; outcome = o }) (stated made)
   left-so z left a made long f o b =
       let same = words-are most words left _ (lent-right most words true hold e z) long refl in
@@ -49,7 +49,7 @@ module _ (most : ℕ) (words : List ℕ) (first : ℕ) (hold : Bool) (e : hold �
     bytes-shut z = rw (no-length z)
 
     module _ (z : hold ≡ true) (left : List ℕ) (a : Answer) (long : length left ≡ length words)
-        (f : _≡_ {A = Result Arbiter Answer} (record { state = stateOf left; answer = a }) (begun (roomOf words) (readTable (roomOf words) bytes) first)) where
+        (f : _≡_ {A = Result State Answer} (record { state = stateOf left; answer = a }) (begun (roomOf words) (readTable (roomOf words) bytes) first)) where
       pub bytes-told : (o : ℕ) → o ≡ answerCode a → _≡_ {A = Stated} (record { words = left; outcome = o }) (started most bytes first words)
       unfolding started leaves
       bytes-told o b = rw (lent-right most words true hold e z) (left-so z left a _ long f o b)
@@ -76,7 +76,7 @@ module _ (most : ℕ) (words : List ℕ) (first : ℕ) (hold : Bool) (e : hold �
       numbers-shut h = rw (lent-right most words true hold e z, h)
 
       module _ (all : rightNumbers (roomOf words) numbers ≡ true) (left : List ℕ) (a : Answer) (long : length left ≡ length words)
-          (f : _≡_ {A = Result Arbiter Answer} (record { state = stateOf left; answer = a }) (start (roomOf words) (numbersTable (roomOf words) numbers) first)) where
+          (f : _≡_ {A = Result State Answer} (record { state = stateOf left; answer = a }) (start (roomOf words) (numbersTable (roomOf words) numbers) first)) where
         pub numbers-told : (o : ℕ) → o ≡ answerCode a → _≡_ {A = Stated} (record { words = left; outcome = o }) (startedOf most numbers first words)
         unfolding startedOf leaves
         numbers-told o b =

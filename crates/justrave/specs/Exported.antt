@@ -10,18 +10,17 @@ use lib.IntN.{ℤ}
 use lib.ListN.{length}
 use Rattle.lists.specs.Choices.{pick, inRange}
 use Rattle.lists.specs.Runs.{Result}
-use Rattle.arbiter.specs.declared.state.Account.{Account}
-use Rattle.arbiter.specs.declared.state.Arbiter.{Arbiter}
-use Rattle.arbiter.specs.Refusals.{refusal}
-use Rattle.arbiter.specs.Answers.{Answer, accepted, granted, idle, refused}
-use Rattle.arbiter.specs.State.{credit, backlog, sound}
-use Rattle.arbiter.specs.Start.{start}
-use Rattle.arbiter.specs.Asked as asked
-use Rattle.leads.specs.Lead as leads
+use Rattle.terms.specs.declared.place.Account.{Account}
+use Rattle.terms.specs.State.{State, credit, backlog, sound}
+use Rattle.terms.specs.Refusals.{refusal}
+use Rattle.terms.specs.Answers.{Answer, accepted, granted, idle, refused}
+use Rattle.terms.specs.Start.{start}
+use Rattle.terms.specs.Asked as asked
+use Rattle.lead_parts.specs.Lead as leads
 use Rattle.table_bytes.specs.Reading.{readTable}
 use Rattle.table_bytes.specs.Writing as writing
-use Rattle.calls.specs.Calls.{post, slot, called}
-use Rattle.run.specs.Log.{Outcome, run}
+use Rattle.rule.specs.Calls.{post, slot, called}
+use Rattle.rule.specs.Log.{Outcome, run}
 use Rattle.layout.specs.Words.{wordCount, roomOf, rightLength, stateWords, stateOf}
 use Rattle.layout.specs.Numbers.{numbersTable, rightNumbers}
 use Rattle.starts.specs.Starts.{begun}
@@ -34,7 +33,7 @@ sizeOf most places = pick (inRange 1 most places) (wordCount places) 0
 
 -- A call on the state that the words are, with their room for its limit; or what comes of a wrong length of the words or of what is lent
 -- beside them.
-unfoldable pub onState : {X : Type 0} → (most : ℕ) → (words : List ℕ) → (beside : Bool) → (turned-down : X) → ((limit : ℕ) → Arbiter → X) → X
+unfoldable pub onState : {X : Type 0} → (most : ℕ) → (words : List ℕ) → (beside : Bool) → (turned-down : X) → ((limit : ℕ) → State → X) → X
 onState most words beside turned-down call = pick (rightLength most words && beside) (call (roomOf words) (stateOf words)) turned-down
 
 -- ---- the calls that change the state. A refused call hands back its state, so that its words are the same words (layout, RoundTrip).
@@ -43,7 +42,7 @@ pub record Stated : Type 0 where
   pub words : List ℕ
   pub outcome : ℕ
 
-abbrev pub stated : Result Arbiter Answer → Stated
+abbrev pub stated : Result State Answer → Stated
 stated r = record { words = stateWords (r .state); outcome = answerCode (r .answer) }
 
 unfoldable pub posted : (most : ℕ) → (words : List ℕ) → (place count : ℕ) → Stated
@@ -63,7 +62,7 @@ slotWords old (idle stamp) = stamp ∷ 0 ∷ []
 slotWords old accepted = old
 slotWords old (refused r) = old
 
-abbrev pub slotStated : (old : List ℕ) → Result Arbiter Answer → Slotted
+abbrev pub slotStated : (old : List ℕ) → Result State Answer → Slotted
 slotStated old r = record { words = stateWords (r .state); answer = slotWords old (r .answer); outcome = answerCode (r .answer) }
 
 unfoldable pub slotted : (most : ℕ) → (words old : List ℕ) → Slotted
@@ -87,7 +86,7 @@ ran most words log =
 -- ---- the calls that make a state. What the words held before does not matter; refused, they are those of the state whose every field is 0.
 
 -- what a start leaves in the lent words, or what comes of a wrong length
-unfoldable pub leaves : (lengths : Bool) → (words : List ℕ) → Result Arbiter Answer → Stated
+unfoldable pub leaves : (lengths : Bool) → (words : List ℕ) → Result State Answer → Stated
 leaves lengths words made = pick lengths (stated made) (record { words = words; outcome = wrongLength })
 
 -- from a table's bytes

@@ -1,17 +1,18 @@
 // What every call does with lent memory: the test of lengths ahead of it, and an answer of two words.
+use arbiter::state::Arbiter;
 use layout::words::length_is_right;
 ghost use mathlib.Core.Path.{_≡_};
 ghost use mathlib.Core.Bool.{_&&_};
 ghost use mathlib.Core.List.{[], _∷_};
 ghost use lib.ListN.{length};
-ghost use Rattle.arbiter.specs.Limits.{maxPlaces};
+ghost use Rattle.terms.specs.Limits.{maxPlaces};
 ghost use Rattle.layout.specs.Words.{rightLength};
 
 // Whether lent words, and what is lent beside them, have their lengths.
 pub(crate) fn lengths_hold(words: &[u64], beside: bool) -> bool
     ensures { λ b. ⌜ b ≡ (rightLength maxPlaces (now (words .entry)) && beside) ⌝ }
 {
-    if length_is_right(words) {
+    if length_is_right(words, Arbiter::MAX_PLACES) {
         return beside;
     }
     false

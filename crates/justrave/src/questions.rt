@@ -1,24 +1,24 @@
 // The exported calls that ask about a state and leave it as it is: figures, lead, the table's bytes, an account, and where the line stands.
 use crate::lent::lengths_hold;
 use crate::lent::put_two;
-use arbiter::asked::FiguresAnswer;
-use arbiter::refusals::Cause;
-use arbiter::refusals::StateRefusal;
-use arbiter::units::Transfers;
 use asking::figures::figures_words;
 use asking::lead::lead_words;
-use asking::look::AccountAnswer;
-use asking::look::StandingAnswer;
 use asking::look::account_words;
 use asking::look::standing_words;
-use asking::write::write_words;
-use leads::LeadAnswer;
+use asking::write::write_state;
 use outcomes::codes::WRONG_LENGTH;
 use outcomes::codes::refusal_code;
 use soundness::soundness::is_sound;
-use table_bytes::writer::WriteAnswer;
+use terms::answers::AccountAnswer;
+use terms::answers::FiguresAnswer;
+use terms::answers::LeadAnswer;
+use terms::answers::StandingAnswer;
+use terms::answers::WriteAnswer;
+use terms::refusals::Cause;
+use terms::refusals::StateRefusal;
+use terms::units::Transfers;
 ghost use mathlib.Core.Path.{_≡_};
-ghost use Rattle.arbiter.specs.Limits.{maxPlaces};
+ghost use Rattle.terms.specs.Limits.{maxPlaces};
 ghost use Rattle.justrave.specs.Exported.{figured, led, wrote, accountTold, standingTold};
 
 // The answer is the reported wait and the finish figure for j transfers. Refused: 255, 23, 11, 5.
@@ -70,7 +70,7 @@ pub extern "C" fn justrave_write(state: &[u64], buffer: &mut [u8], answer: &mut 
     if !is_sound(state) {
         return refusal_code(Cause::State(StateRefusal::Unsound));
     }
-    let told = write_words(state, buffer);
+    let told = write_state(state, buffer);
     match told {
         WriteAnswer::Wrote(bytes) => {
             answer[0] = bytes as u64;

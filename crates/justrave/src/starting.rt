@@ -1,16 +1,16 @@
 // The exported calls that make a state: a start from a table's bytes, and one from a table given as numbers. Refused, every word is 0: 255
 // alone leaves them as they were.
 use crate::lent::lengths_hold;
-use arbiter::start::StartAnswer;
-use arbiter::units::Slots;
 use layout::numbers::numbers_are_right;
 use layout::words::room_of;
 use outcomes::codes::WRONG_LENGTH;
 use outcomes::codes::refusal_code;
 use starts::bytes::start_bytes;
 use starts::numbers::start_numbers;
+use terms::answers::StartAnswer;
+use terms::units::Slots;
 ghost use mathlib.Core.Path.{_≡_};
-ghost use Rattle.arbiter.specs.Limits.{maxPlaces};
+ghost use Rattle.terms.specs.Limits.{maxPlaces};
 ghost use Rattle.justrave.specs.Exported.{started, startedOf};
 
 // The state of a table's bytes and a first slot number. Refused: 255; 8, 9 and 1 to 5 number by number; 10, 6, 7, 12.

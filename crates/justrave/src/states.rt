@@ -2,9 +2,6 @@
 use crate::lent::lengths_hold;
 use crate::lent::put_two;
 use arbiter::state::Arbiter;
-use arbiter::units::Transfers;
-use calls::post::PostAnswer;
-use calls::slot::SlotAnswer;
 use layout::words::LAYOUT;
 use layout::words::words_of;
 use moves::posts::post_words;
@@ -12,9 +9,12 @@ use moves::runs::run_words;
 use moves::slots::slot_words;
 use outcomes::codes::WRONG_LENGTH;
 use outcomes::codes::refusal_code;
-use run::run::RunAnswer;
+use terms::answers::PostAnswer;
+use terms::answers::RunAnswer;
+use terms::answers::SlotAnswer;
+use terms::units::Transfers;
 ghost use mathlib.Core.Path.{_≡_};
-ghost use Rattle.arbiter.specs.Limits.{maxPlaces};
+ghost use Rattle.terms.specs.Limits.{maxPlaces};
 ghost use Rattle.layout.specs.Words.{layoutVersion};
 ghost use Rattle.justrave.specs.Exported.{sizeOf, posted, slotted, ran};
 

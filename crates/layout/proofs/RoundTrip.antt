@@ -7,19 +7,18 @@ use native.Mathlib.Nat.{mul-div-cancel-left}
 use native.Mathlib.Omega.{arith}
 use borrow.Author.Tests.{eqb-true, eq-eqb}
 use lib.Dec.{eqb}
-use lib.ListN.{length, getD, drop, drop-of-length-le, length-append}
+use lib.ListN.{length, getD, drop, drop-of-length-le}
 use lib.Seq.{drop-cons, getD-append-seam, getD-append-add}
 use Rattle.lists.specs.Sums.{joined}
 use Rattle.lists.specs.Pairs.{paired}
 use Rattle.lists.proofs.Sums.{length-joined-same}
 use Rattle.lists.proofs.Pairs.{length-paired}
 use Rattle.lists.proofs.Tests.{and-true, true-and, in-range, in-range-true}
-use Rattle.arbiter.specs.declared.table.Requestor.{Requestor}
-use Rattle.arbiter.specs.declared.state.Account.{Account}
-use Rattle.arbiter.specs.declared.state.Arbiter.{Arbiter}
-use Rattle.arbiter.specs.Table.{noRequestor}
-use Rattle.arbiter.specs.State.{noAccount, Shaped}
-use Rattle.layout.specs.Words.{placeStart, wordCount, roomOf, rightLength, headWords, Place, place, placeWords, stateWords, rowFrom, accountFrom, rowIn, accountIn, placesFrom, wordsState, stateOf}
+use Rattle.terms.specs.declared.place.Requestor.{Requestor}
+use Rattle.terms.specs.declared.place.Account.{Account}
+use Rattle.terms.specs.State.{State, noAccount, Shaped}
+use Rattle.terms.specs.Table.{noRequestor}
+use Rattle.layout.specs.Words.{placeStart, wordCount, roomOf, rightLength, headWords, Place, place, placeWords, stateWords, rowFrom, accountFrom, rowIn, accountIn, placesFrom, wordsState}
 use Rattle.layout.specs.RoundTrip.{Words-read-back, Words-shaped, State-written-back}
 use Rattle.layout.proofs.Items.{length-places, at-place, map-places, paired-places, Items, written-read, read-written}
 
@@ -63,7 +62,7 @@ places = record {
 
 -- ---- how many words
 
-pub length-state : (room : ℕ) (s : Arbiter) → Shaped room s → length (stateWords s) ≡ wordCount room
+pub length-state : (room : ℕ) (s : State) → Shaped room s → length (stateWords s) ≡ wordCount room
 unfolding stateWords
 length-state room s v =
     let rs = s .table .requestors in
@@ -130,7 +129,7 @@ pub state-written-back : State-written-back
 state-written-back most words e = written-back (roomOf words) words (right most words e .long)
 
 -- words that are read as a state are its words
-pub words-of : (room : ℕ) (words : List ℕ) (s : Arbiter) → length words ≡ wordCount room → wordsState room words ≡ s → words ≡ stateWords s
+pub words-of : (room : ℕ) (words : List ℕ) (s : State) → length words ≡ wordCount room → wordsState room words ≡ s → words ≡ stateWords s
 words-of room words s long e = sym (written-back room words long) ∙ ap stateWords e
 
 -- ---- a state, written and read
@@ -145,7 +144,7 @@ paired-rows (r ∷ rs) (a ∷ accounts) h =
     let more = paired-rows rs accounts (omega arith) in
     (ap (λ l. r ∷ l) (more .0), ap (λ l. a ∷ l) (more .1))
 
-pub read-back : (room : ℕ) (s : Arbiter) → Shaped room s → wordsState room (stateWords s) ≡ s
+pub read-back : (room : ℕ) (s : State) → Shaped room s → wordsState room (stateWords s) ≡ s
 unfolding stateWords wordsState places
 read-back room s v =
     let words = stateWords s in

@@ -1,10 +1,10 @@
 -- What a store of one field makes of the state that the words are; the state of words that are all 0; and words that are 0 from a place on.
 -- Assumes nothing.
-use mathlib.Core.Path.{_≡_, refl, ap, sym, _∙_}
+use mathlib.Core.Path.{_≡_, refl, sym, _∙_}
 use mathlib.Core.Bool.{Bool, true, false, _&&_}
-use mathlib.Core.List.{List, [], _∷_}
+use mathlib.Core.List.{List}
 use mathlib.Core.Logic.{_≢_}
-use Prim.Native.Nat.{ℕ, zero, suc, _+_, _-_, _*_, _≤_, _<_}
+use Prim.Native.Nat.{ℕ, zero, suc, _+_, _-_, _≤_, _<_}
 use native.Mathlib.Numerals.{add-one}
 use native.Mathlib.Omega.{arith}
 use borrow.Author.Tests.{eqb-true, eqb-false, ne-eqb}
@@ -15,13 +15,13 @@ use lib.Seq.{drop-cons, getD-set-same, getD-set-other}
 use Rattle.lists.specs.Sums.{every}
 use Rattle.lists.specs.Overwriting.{writtenOver}
 use Rattle.lists.proofs.Tests.{cases, and-false, every-end}
-use Rattle.arbiter.specs.declared.table.Requestor.{Requestor}
-use Rattle.arbiter.specs.declared.state.Account.{Account}
-use Rattle.arbiter.specs.Table.{noRequestor, requestorClear, tableOf}
-use Rattle.arbiter.specs.State.{noAccount, accountClear}
-use Rattle.arbiter.specs.Start.{noState}
+use Rattle.terms.specs.declared.place.Requestor.{Requestor}
+use Rattle.terms.specs.declared.place.Account.{Account}
+use Rattle.terms.specs.Table.{noRequestor, requestorClear, tableOf}
+use Rattle.terms.specs.State.{noAccount, accountClear}
+use Rattle.terms.specs.Start.{noState}
 use Rattle.layout.specs.Words.{placeStart, wordCount, roomOf, rightLength, rowIn, accountIn, placesFrom, wordsState, putHead, putAccount, putRow, putSlotNumber, isZero, withAccount, withSlot, withHead, withRow}
-use Rattle.layout.proofs.Items.{same-places, set-places, drop-places, Items}
+use Rattle.layout.proofs.Items.{same-places, set-places, drop-places}
 use Rattle.layout.proofs.RoundTrip.{places}
 
 -- ---- an account

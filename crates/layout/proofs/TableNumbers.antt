@@ -8,8 +8,8 @@ use lib.ListN.{length, getD, drop, drop-of-length-le}
 use lib.Seq.{drop-cons, getD-append-seam, getD-append-add}
 use Rattle.lists.specs.Sums.{joined}
 use Rattle.lists.proofs.Sums.{length-joined-same}
-use Rattle.arbiter.specs.declared.table.Requestor.{Requestor}
-use Rattle.arbiter.specs.Table.{rowNumbers}
+use Rattle.terms.specs.declared.place.Requestor.{Requestor}
+use Rattle.terms.specs.Table.{rowNumbers}
 use Rattle.layout.specs.Words.{rowFrom}
 use Rattle.layout.specs.Numbers.{rowStart, numberCount, allNumbers, numbersTable}
 use Rattle.layout.specs.RoundTrip.{Numbers-read-back, Table-written-back}

@@ -5,15 +5,14 @@ use mathlib.Core.Bool.{true}
 use mathlib.Core.List.{List}
 use Prim.Native.Nat.{ℕ, _≤_}
 use lib.ListN.{length}
-use Rattle.arbiter.specs.declared.state.Arbiter.{Arbiter}
-use Rattle.arbiter.specs.declared.table.Table.{Table}
-use Rattle.arbiter.specs.State.{Shaped}
+use Rattle.terms.specs.State.{State, Shaped}
+use Rattle.terms.specs.Table.{Table}
 use Rattle.layout.specs.Words.{roomOf, rightLength, stateWords, wordsState, stateOf}
 use Rattle.layout.specs.Numbers.{rightNumbers, allNumbers, numbersTable}
 
 abbrev pub Words-read-back : Type 0
 Words-read-back =
-    (most room : ℕ) (s : Arbiter) → Shaped room s → 1 ≤ room → room ≤ most
+    (most room : ℕ) (s : State) → Shaped room s → 1 ≤ room → room ≤ most
     → (rightLength most (stateWords s) ≡ true) × (roomOf (stateWords s) ≡ room) × (wordsState room (stateWords s) ≡ s)
 
 -- any words are those of a state that the claims on states hold for

@@ -8,11 +8,10 @@ use lib.ListN.{length, getD, set}
 use Rattle.lists.specs.Choices.{inRange}
 use Rattle.lists.specs.Sums.{joined}
 use Rattle.lists.specs.Pairs.{paired}
-use Rattle.arbiter.specs.declared.table.Requestor.{Requestor}
-use Rattle.arbiter.specs.declared.table.Table.{Table}
-use Rattle.arbiter.specs.declared.state.Account.{Account}
-use Rattle.arbiter.specs.declared.state.Arbiter.{Arbiter}
-use Rattle.arbiter.specs.Table.{rowNumbers}
+use Rattle.terms.specs.declared.place.Requestor.{Requestor}
+use Rattle.terms.specs.Table.{Table, rowNumbers}
+use Rattle.terms.specs.declared.place.Account.{Account}
+use Rattle.terms.specs.State.{State}
 
 -- the number of this layout; 1 had all rows, and then all accounts
 abbrev pub layoutVersion : ℕ
@@ -38,7 +37,7 @@ rightLength most words = eqb (length words) (wordCount (roomOf words)) && inRang
 
 -- ---- from a state to its words
 
-abbrev pub headWords : Arbiter → List ℕ
+abbrev pub headWords : State → List ℕ
 headWords s = s .table .denominator ∷ s .table .count ∷ s .slot .0 ∷ []
 
 abbrev pub accountWords : Account → List ℕ
@@ -55,7 +54,7 @@ place r a = record { row = r; account = a }
 abbrev pub placeWords : Place → List ℕ
 placeWords x = rowNumbers (x .row) ++ accountWords (x .account)
 
-unfoldable pub stateWords : Arbiter → List ℕ
+unfoldable pub stateWords : State → List ℕ
 stateWords s = headWords s ++ joined placeWords (paired place (s .table .requestors) (s .accounts))
 
 -- ---- from words to the state that they are
@@ -84,14 +83,14 @@ unfoldable pub placesFrom : {X : Type 0} → (ℕ → X) → (p n : ℕ) → Lis
 placesFrom f p zero = []
 placesFrom f p (suc n) = f p ∷ placesFrom f (suc p) n
 
-unfoldable pub wordsState : (room : ℕ) → List ℕ → Arbiter
+unfoldable pub wordsState : (room : ℕ) → List ℕ → State
 wordsState room words = record {
   table = record { denominator = getD words 0 0; count = getD words 1 0; requestors = placesFrom (rowIn words) 0 room };
   slot = record { 0 = getD words 2 0 };
   accounts = placesFrom (accountIn words) 0 room;
 }
 
-abbrev pub stateOf : List ℕ → Arbiter
+abbrev pub stateOf : List ℕ → State
 stateOf words = wordsState (roomOf words) words
 
 -- ---- single fields, stored
@@ -117,20 +116,20 @@ isZero x = eqb x 0
 
 -- ---- a state with one thing changed
 
-abbrev pub withAccounts : Arbiter → List Account → Arbiter
+abbrev pub withAccounts : State → List Account → State
 withAccounts s accounts = record { table = s .table; slot = s .slot; accounts = accounts }
 
-abbrev pub withAccount : Arbiter → (p : ℕ) → Account → Arbiter
+abbrev pub withAccount : State → (p : ℕ) → Account → State
 withAccount s p a = withAccounts s (set (s .accounts) p a)
 
-abbrev pub withSlot : Arbiter → ℕ → Arbiter
+abbrev pub withSlot : State → ℕ → State
 withSlot s at = record { table = s .table; slot = record { 0 = at }; accounts = s .accounts }
 
-abbrev pub withTable : Arbiter → Table → Arbiter
+abbrev pub withTable : State → Table → State
 withTable s t = record { table = t; slot = s .slot; accounts = s .accounts }
 
-abbrev pub withHead : Arbiter → (d n : ℕ) → Arbiter
+abbrev pub withHead : State → (d n : ℕ) → State
 withHead s d n = withTable s (record { denominator = d; count = n; requestors = s .table .requestors })
 
-abbrev pub withRow : Arbiter → (p : ℕ) → Requestor → Arbiter
+abbrev pub withRow : State → (p : ℕ) → Requestor → State
 withRow s p r = withTable s (record { denominator = s .table .denominator; count = s .table .count; requestors = set (s .table .requestors) p r })

@@ -1,12 +1,12 @@
 // Where each field of a table stands in the 32-bit numbers that it is given as: D, N, and then, place after place, rate, burst, need and
 // within. No other module indexes numbers that are handed in.
-use arbiter::table::Requestor;
-use arbiter::units::Slots;
-use arbiter::units::Transfers;
+use terms::place::Requestor;
+use terms::units::Slots;
+use terms::units::Transfers;
 ghost use mathlib.Core.Path.{_≡_};
 ghost use Prim.Native.Nat.{_+_, _≤_};
 ghost use lib.ListN.{length, getD};
-ghost use Rattle.arbiter.specs.Limits.{maxPlaces};
+ghost use Rattle.terms.specs.Limits.{maxPlaces};
 ghost use Rattle.layout.specs.Numbers.{rowStart, rightNumbers, numbersRow};
 
 // D and N stand ahead of the rows.

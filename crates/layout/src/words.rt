@@ -1,15 +1,14 @@
 // Where each field of a state stands in its words: D, N and the slot number, and then, place after place, rate, burst, need, within, credit
 // and backlog. No other module of the product indexes a state's words.
-use arbiter::state::Account;
-use arbiter::state::Arbiter;
-use arbiter::table::Requestor;
-use arbiter::units::Slots;
-use arbiter::units::Transfers;
+use terms::place::Account;
+use terms::place::Requestor;
+use terms::units::Slots;
+use terms::units::Transfers;
 ghost use mathlib.Core.Path.{_≡_};
 ghost use Prim.Native.Nat.{_+_, _≤_};
-ghost use lib.ListN.{length, getD, set, drop, replicate};
+ghost use lib.ListN.{length, getD, drop, replicate};
 ghost use Rattle.lists.specs.Sums.{every};
-ghost use Rattle.arbiter.specs.Limits.{maxPlaces};
+ghost use Rattle.terms.specs.Limits.{maxPlaces};
 ghost use Rattle.layout.specs.Words.{isZero, placeStart, wordCount, roomOf, rightLength, rowIn, accountIn, putHead, putSlotNumber, putBacklog, putAccount, putRow};
 
 // The number of this layout. Words that were kept under another are another's.
@@ -52,9 +51,9 @@ pub fn room_of(words: &[u64]) -> usize
     (words.len() - HEAD) / PLACE
 }
 
-// As many words as a state has that has room for 1 place to the largest N.
-pub fn length_is_right(words: &[u64]) -> bool
-    ensures { λ b. ⌜ b ≡ rightLength maxPlaces (now (words .entry)) ⌝ }
+// As many words as a state has that has room for 1 to so many places.
+pub fn length_is_right(words: &[u64], most: usize) -> bool
+    ensures { λ b. ⌜ b ≡ rightLength most (now (words .entry)) ⌝ }
 {
     if words.len() < HEAD {
         return false;
@@ -66,7 +65,7 @@ pub fn length_is_right(words: &[u64]) -> bool
     if room < 1 {
         return false;
     }
-    room <= Arbiter::MAX_PLACES
+    room <= most
 }
 
 pub fn denominator(words: &[u64]) -> u64

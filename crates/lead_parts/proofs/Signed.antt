@@ -10,7 +10,7 @@ use lib.Signed.{mag}
 use mir.Syntax.{w64}
 use mir.Val.{SFits, toZ, ofZ}
 use mir.Facts.{toZ-pos, toZ-ofZ}
-use Rattle.arbiter.specs.Limits.{maxDenominator, maxInput}
+use Rattle.terms.specs.Limits.{maxDenominator, maxInput}
 
 -- the size of a difference, whichever sign it has
 mag-difference : (t : Bool) (a b : ℕ) → mag (cond t (negsuc b) (pos a)) ≤ a + b

@@ -1,12 +1,12 @@
 // What a lead is made of: the grants of a place in a log, and the difference of two products. Whoever asks for a lead has tested the log's
 // length and the state before, so that both fit.
-use arbiter::units::Slots;
-use arbiter::units::Transfers;
+use terms::units::Slots;
+use terms::units::Transfers;
 ghost use mathlib.Core.Path.{_≡_};
 ghost use Prim.Native.Nat.{_*_, _≤_};
 ghost use lib.IntN.{pos, _-ℤ_};
 ghost use lib.ListN.{length};
-ghost use Rattle.arbiter.specs.Limits.{maxDenominator, maxInput};
+ghost use Rattle.terms.specs.Limits.{maxDenominator, maxInput};
 ghost use Rattle.lead_parts.specs.Counts.{bytesEqual};
 
 // The transfers that a log grants to place p: its bytes equal to p.

@@ -1,7 +1,7 @@
 -- Texts put one behind the other at the start of a buffer, and the lines that are made of them. Assumes nothing.
 use mathlib.Core.Path.{_≡_, refl, ap, sym, _∙_}
 use mathlib.Core.List.{List, [], _∷_, _++_, map, append-nil, append-assoc}
-use Prim.Native.Nat.{ℕ, suc, _+_, _-_, _*_, _≤_, _<_}
+use Prim.Native.Nat.{ℕ, suc, _+_, _≤_, _<_}
 use native.Mathlib.Omega.{arith}
 use lib.ListN.{length, getD, set, take, drop, length-append, length-set}
 use lib.Seq.{take-all}
@@ -10,9 +10,8 @@ use Rattle.lists.specs.Overwriting.{writtenOver}
 use Rattle.lists.proofs.Sums.{total-take-rises, joined-next, length-joined}
 use Rattle.lists.proofs.Overwriting.{overwrite-more}
 use Rattle.lists.proofs.Putting.{Put, put-none}
-use Rattle.arbiter.specs.declared.state.Account.{Account}
-use Rattle.arbiter.specs.declared.state.Arbiter.{Arbiter}
-use Rattle.arbiter.specs.State.{noAccount, accountAt}
+use Rattle.terms.specs.declared.place.Account.{Account}
+use Rattle.terms.specs.State.{State, noAccount, accountAt}
 use Rattle.rule.specs.declared.rule.Grant.{Grant}
 use Rattle.lines.specs.Text.{decimal, spaced, line}
 use Rattle.lines.specs.Lines.{placeItem, creditItem, creditItems, slotLine}
@@ -87,7 +86,7 @@ credits-joined (a ∷ accounts) = ap (λ l. spacedCredit a ++ l) (credits-joined
 abbrev pub creditsTo : ℕ → List Account → List ℕ
 creditsTo p accounts = joined spacedCredit (take p accounts)
 
-pub credits-all : (s : Arbiter) → creditsTo (s .table .count) (s .accounts) ≡ joined spaced (creditItems s)
+pub credits-all : (s : State) → creditsTo (s .table .count) (s .accounts) ≡ joined spaced (creditItems s)
 credits-all s = sym (credits-joined (take (s .table .count) (s .accounts)))
 
 pub credits-none : (accounts : List Account) (old : List ℕ) → Put (creditsTo 0 accounts) old old 0
@@ -109,7 +108,7 @@ credits-next accounts p h e = rw (joined-next spacedCredit noAccount accounts p 
 
 -- ---- the line of a slot
 
-module _ (stamp : ℕ) (g : Grant) (after : Arbiter) where
+module _ (stamp : ℕ) (g : Grant) (after : State) where
   pub slot-text : ((decimal stamp ++ spaced (placeItem g)) ++ joined spaced (creditItems after)) ++ (10 ∷ []) ≡ slotLine stamp g after
   unfolding slotLine
   slot-text = line-text (decimal stamp) (placeItem g) (creditItems after)

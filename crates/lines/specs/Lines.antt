@@ -3,10 +3,9 @@
 use mathlib.Core.List.{List, [], _∷_, map}
 use Prim.Native.Nat.{ℕ}
 use lib.ListN.{take}
-use Rattle.arbiter.specs.declared.refusals.Refusal.{Refusal}
-use Rattle.arbiter.specs.declared.state.Account.{Account}
-use Rattle.arbiter.specs.declared.state.Arbiter.{Arbiter}
-use Rattle.arbiter.specs.State.{credit}
+use Rattle.terms.specs.declared.refusals.Refusal.{Refusal}
+use Rattle.terms.specs.declared.place.Account.{Account}
+use Rattle.terms.specs.State.{State, credit}
 use Rattle.rule.specs.declared.rule.Grant.{Grant}
 use Rattle.rule.specs.declared.rule.Grant.the-variants.{Nobody, Place}
 use Rattle.lines.specs.Text.{decimal, line}
@@ -32,9 +31,9 @@ placeItem (Place p) = decimal p
 abbrev pub creditItem : Account → List ℕ
 creditItem a = decimal (credit a)
 
-abbrev pub creditItems : Arbiter → List (List ℕ)
+abbrev pub creditItems : State → List (List ℕ)
 creditItems s = map creditItem (take (s .table .count) (s .accounts))
 
 -- the line of a slot: its stamp, whom it granted, and the credits of the state after it
-unfoldable pub slotLine : (stamp : ℕ) → Grant → (after : Arbiter) → List ℕ
+unfoldable pub slotLine : (stamp : ℕ) → Grant → (after : State) → List ℕ
 slotLine stamp g after = line (decimal stamp) (placeItem g ∷ creditItems after)

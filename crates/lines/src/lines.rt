@@ -2,18 +2,21 @@
 use crate::text::put;
 use crate::text::put_item;
 use crate::text::put_number;
-use arbiter::refusals::Cause;
-use arbiter::state::Arbiter;
-use arbiter::units::Slots;
+use layout::words::account;
+use layout::words::count;
 use rule::rule::Grant;
+use terms::refusals::Cause;
+use terms::units::Slots;
 ghost use mathlib.Core.Path.{_≡_};
 ghost use mathlib.Core.List.{[], _∷_};
 ghost use Prim.Native.Nat.{_≤_};
 ghost use lib.ListN.{length};
 ghost use Rattle.lists.specs.Sums.{joined};
 ghost use Rattle.lists.specs.Overwriting.{writtenOver};
-ghost use Rattle.arbiter.specs.Limits.{maxPlaces};
-ghost use Rattle.arbiter.specs.Refusals.{refusalOf};
+ghost use Rattle.terms.specs.Limits.{maxPlaces};
+ghost use Rattle.layout.specs.Words.{stateOf};
+ghost use Rattle.admission.specs.Checked.{Counted};
+ghost use Rattle.terms.specs.Refusals.{refusalOf};
 ghost use Rattle.lines.specs.Text.{decimal, spaced, line};
 ghost use Rattle.lines.specs.Lines.{header, endLine, refusedLine, placeItem, creditItems, slotLine};
 
@@ -55,17 +58,16 @@ pub fn put_end(slots: Slots, out: &mut [u8]) -> usize
 }
 
 // The credits from place 0 on.
-fn put_credits(s: Arbiter, out: &mut [u8]) -> usize
-    requires { ⌜ (s .table .count ≤ maxPlaces) × (length (joined spaced (creditItems s)) ≤ length (now out)) ⌝ }
-    ensures wrote { λ k. ⌜ k ≡ length (joined spaced (creditItems s)) ⌝ }
-    ensures text { λ _. ⌜ now (out .exit) ≡ writtenOver (joined spaced (creditItems s)) (now (out .entry)) ⌝ }
+fn put_credits(words: &[u64], out: &mut [u8]) -> usize
+    requires { ⌜ Counted maxPlaces (now words) × (length (joined spaced (creditItems (stateOf (now words)))) ≤ length (now out)) ⌝ }
+    ensures wrote { λ k. ⌜ k ≡ length (joined spaced (creditItems (stateOf (now (words .entry))))) ⌝ }
+    ensures text { λ _. ⌜ now (out .exit) ≡ writtenOver (joined spaced (creditItems (stateOf (now (words .entry))))) (now (out .entry)) ⌝ }
 {
-    let t = s.table;
-    let n = t.count;
+    let n = count(words);
     let mut at: usize = 0;
     let mut p: usize = 0;
     while p < n {
-        let a = s.accounts[p];
+        let a = account(words, p);
         at = at + put_item(a.credit, &mut out[at..]);
         p = p + 1;
     }
@@ -85,10 +87,10 @@ fn put_place(g: Grant, out: &mut [u8]) -> usize
 }
 
 // The line of a slot: its stamp, whom it granted, and the credits after it.
-pub fn put_slot(stamp: Slots, g: Grant, after: Arbiter, out: &mut [u8]) -> usize
-    requires { ⌜ (after .table .count ≤ maxPlaces) × (length (slotLine (stamp .0) g after) ≤ length (now out)) ⌝ }
-    ensures wrote { λ k. ⌜ k ≡ length (slotLine (stamp .0) g after) ⌝ }
-    ensures text { λ _. ⌜ now (out .exit) ≡ writtenOver (slotLine (stamp .0) g after) (now (out .entry)) ⌝ }
+pub fn put_slot(stamp: Slots, g: Grant, after: &[u64], out: &mut [u8]) -> usize
+    requires { ⌜ Counted maxPlaces (now after) × (length (slotLine (stamp .0) g (stateOf (now after))) ≤ length (now out)) ⌝ }
+    ensures wrote { λ k. ⌜ k ≡ length (slotLine (stamp .0) g (stateOf (now (after .entry)))) ⌝ }
+    ensures text { λ _. ⌜ now (out .exit) ≡ writtenOver (slotLine (stamp .0) g (stateOf (now (after .entry)))) (now (out .entry)) ⌝ }
 {
     let mut at = put_number(stamp.0, out);
     at = at + put_place(g, &mut out[at..]);

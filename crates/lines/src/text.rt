@@ -1,6 +1,5 @@
 // Texts in a lent buffer: each is put at its start, and what stands behind is left as it was. The answer is how many bytes were put.
 ghost use mathlib.Core.Path.{_≡_};
-ghost use mathlib.Core.List.{_∷_, _++_, []};
 ghost use Prim.Native.Nat.{_≤_, _+_};
 ghost use lib.ListN.{length};
 ghost use Rattle.lists.specs.Overwriting.{writtenOver};

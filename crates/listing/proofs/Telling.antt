@@ -12,21 +12,23 @@ use Rattle.lists.specs.Sums.{joined}
 use Rattle.lists.specs.Overwriting.{writtenOver}
 use Rattle.lists.specs.Runs.{Result}
 use Rattle.lists.proofs.Sums.{total-most, length-joined}
-use Rattle.arbiter.specs.declared.refusals.Refusal.{Refusal}
-use Rattle.arbiter.specs.declared.table.Table.{Table}
-use Rattle.arbiter.specs.declared.state.Arbiter.{Arbiter}
-use Rattle.arbiter.specs.Limits.{maxPlaces}
-use Rattle.arbiter.specs.Refusals.{refusal, gate}
-use Rattle.arbiter.specs.Answers.{Answer, accepted, granted, idle, refused, unless}
-use Rattle.arbiter.specs.State.{sound, noAccount, accountAt}
-use Rattle.arbiter.specs.Start.{noState}
-use Rattle.arbiter.proofs.Checks.{fair}
-use Rattle.arbiter.proofs.Sound.{sound-table}
+use Rattle.terms.specs.declared.refusals.Refusal.{Refusal}
+use Rattle.terms.specs.Table.{Table}
+use Rattle.terms.specs.State.{State, sound, noAccount, accountAt}
+use Rattle.terms.specs.Limits.{maxPlaces}
+use Rattle.terms.specs.Refusals.{refusal, gate}
+use Rattle.terms.specs.Answers.{Answer, accepted, granted, idle, refused, unless}
+use Rattle.terms.specs.Start.{noState}
+use Rattle.terms.proofs.Checks.{fair}
+use Rattle.terms.proofs.Sound.{sound-table}
 use Rattle.table_bytes.specs.Reading.{read, stop}
 use Rattle.rule.specs.declared.rule.Grant.{Grant}
 use Rattle.rule.specs.declared.rule.Grant.the-variants.{Nobody, Place}
-use Rattle.calls.specs.Calls.{Call, post, slot, done, called, ruleVerdict}
-use Rattle.calls.proofs.Verdicts.{outcome-table}
+use Rattle.rule.specs.Calls.{Call, post, slot, done, called, ruleVerdict}
+use Rattle.rule.proofs.Verdicts.{outcome-table}
+use Rattle.layout.specs.Words.{wordCount, stateOf}
+use Rattle.admission.specs.Checked.{Counted}
+use Rattle.arbiter.proofs.ByValue.{room-full, right-full}
 use Rattle.lines.specs.Text.{decimal, spaced, line}
 use Rattle.lines.specs.Lines.{header, endLine, refusedLine, placeItem, creditItems, slotLine}
 use Rattle.reads.specs.Reads.{countsRead, begun}
@@ -57,7 +59,7 @@ place-few : (g : Grant) → length (spaced (placeItem g)) ≤ itemRoom
 place-few Nobody = omega (arith, item-length (45 ∷ []))
 place-few (Place p) = item-few p
 
-credits-few : (s : Arbiter) → s .table .count ≤ maxPlaces → length (joined spaced (creditItems s)) ≤ maxPlaces * itemRoom
+credits-few : (s : State) → s .table .count ≤ maxPlaces → length (joined spaced (creditItems s)) ≤ maxPlaces * itemRoom
 credits-few s h =
     let n = s .table .count in
     let accounts = take n (s .accounts) in
@@ -65,7 +67,7 @@ credits-few s h =
     let count : length accounts ≤ n = simp length-take (omega arith) in
     omega (arith, ap length (credits-all s), length-joined spacedCredit accounts, few, count)
 
-slot-few : (stamp : ℕ) (g : Grant) (after : Arbiter) → after .table .count ≤ maxPlaces → length (slotLine stamp g after) ≤ lineRoom maxPlaces
+slot-few : (stamp : ℕ) (g : Grant) (after : State) → after .table .count ≤ maxPlaces → length (slotLine stamp g after) ≤ lineRoom maxPlaces
 slot-few stamp g after h = omega (arith, slot-length stamp g after, decimal-few stamp, place-few g, credits-few after h)
 
 -- in a buffer that has room for the longest line
@@ -76,7 +78,7 @@ module _ {room : ℕ} (h : lineRoom maxPlaces ≤ room) where
   pub end-fits : (slots : ℕ) → length (endLine slots) ≤ room
   end-fits slots = omega (arith, end-few slots)
 
-  pub slot-fits : (stamp : ℕ) (g : Grant) (after : Arbiter) → after .table .count ≤ maxPlaces → length (slotLine stamp g after) ≤ room
+  pub slot-fits : (stamp : ℕ) (g : Grant) (after : State) → after .table .count ≤ maxPlaces → length (slotLine stamp g after) ≤ room
   slot-fits stamp g after few = omega (arith, slot-few stamp g after few)
 
   -- also behind the header
@@ -100,18 +102,18 @@ wrote-inside text e h = omega arith
 -- ---- a slot
 
 -- a call keeps the table
-called-table : (limit : ℕ) (s : Arbiter) (c : Call) → called limit s c .state .table ≡ s .table
+called-table : (limit : ℕ) (s : State) (c : Call) → called limit s c .state .table ≡ s .table
 unfolding called
 called-table limit s c = outcome-table (gate (refusal 23) (sound limit s) (ruleVerdict s c)) s c
 
-unless-table : (t : Table) (one others : Result Arbiter Answer) (a : Answer) → one .state .table ≡ t → others .state .table ≡ t
+unless-table : (t : Table) (one others : Result State Answer) (a : Answer) → one .state .table ≡ t → others .state .table ≡ t
     → unless a (λ why. one) others .state .table ≡ t
 unless-table t one others accepted e f = f
 unless-table t one others (granted stamp place) e f = f
 unless-table t one others (idle stamp) e f = f
 unless-table t one others (refused why) e f = e
 
-posted-table : (limit : ℕ) (s : Arbiter) (p : ℕ) (counts : List ℕ) → posted limit s p counts .state .table ≡ s .table
+posted-table : (limit : ℕ) (s : State) (p : ℕ) (counts : List ℕ) → posted limit s p counts .state .table ≡ s .table
 unfolding posted
 posted-table limit s p [] = refl
 posted-table limit s p (count ∷ counts) =
@@ -119,31 +121,35 @@ posted-table limit s p (count ∷ counts) =
     let same = called-table limit s (post p count) in
     unless-table (s .table) one (posted limit (one .state) (suc p) counts) (one .answer) same (posted-table limit (one .state) (suc p) counts ∙ same)
 
-played-table : (limit : ℕ) (s : Arbiter) (counts : List ℕ) → played limit s counts .state .table ≡ s .table
+played-table : (limit : ℕ) (s : State) (counts : List ℕ) → played limit s counts .state .table ≡ s .table
 unfolding played
 played-table limit s counts =
     let all = posted limit s 0 counts in
     let same = posted-table limit s 0 counts in
     unless-table (s .table) all (called limit (all .state) slot) (all .answer) same (called-table limit (all .state) slot ∙ same)
 
+-- an arbiter's words have room for its places
+pub counted : (words : List ℕ) → length words ≡ wordCount maxPlaces → stateOf words .table .count ≤ maxPlaces → Counted maxPlaces words
+counted words full few = record { right = right-full words full; count-most = rw (room-full words full) few }
+
 -- N of a sound state
-pub sound-few : (s : Arbiter) → sound maxPlaces s ≡ true → s .table .count ≤ maxPlaces
+pub sound-few : (s : State) → sound maxPlaces s ≡ true → s .table .count ≤ maxPlaces
 sound-few s e = fair maxPlaces (s .table) (sound-table maxPlaces s e) .count-most
 
 -- N of the state after its slot
-pub played-few : (s : Arbiter) (counts : List ℕ) (done : Result Arbiter Answer) → sound maxPlaces s ≡ true → done ≡ played maxPlaces s counts → done .state .table .count ≤ maxPlaces
+pub played-few : (s : State) (counts : List ℕ) (done : Result State Answer) → sound maxPlaces s ≡ true → done ≡ played maxPlaces s counts → done .state .table .count ≤ maxPlaces
 played-few s counts done e d =
-    let same : done .state .table .count ≡ s .table .count = ap (λ (r : Result Arbiter Answer). r .state .table .count) d ∙ ap (λ t. t .count) (played-table maxPlaces s counts) in
+    let same : done .state .table .count ≡ s .table .count = ap (λ (r : Result State Answer). r .state .table .count) d ∙ ap (λ t. t .count) (played-table maxPlaces s counts) in
     omega (arith, same, sound-few s e)
 
-module _ (limit : ℕ) (s : Arbiter) (bytes : List ℕ) where
+module _ (limit : ℕ) (s : State) (bytes : List ℕ) where
   -- the counts are refused
   pub slot-stopped : (why : Refusal) → stop why ≡ countsRead (s .table .count) bytes → last (refusedLine why) s ≡ slotStep limit s (countsRead (s .table .count) bytes)
   unfolding slotStep
   slot-stopped why e = rw (← e)
 
   -- they are played
-  pub slot-played : (counts rest : List ℕ) (done : Result Arbiter Answer) → read counts rest ≡ countsRead (s .table .count) bytes → done ≡ played limit s counts
+  pub slot-played : (counts rest : List ℕ) (done : Result State Answer) → read counts rest ≡ countsRead (s .table .count) bytes → done ≡ played limit s counts
       → slotTold s (done .answer) (done .state) rest ≡ slotStep limit s (countsRead (s .table .count) bytes)
   unfolding slotStep
   slot-played counts rest done e d = rw (← e, ← d)
@@ -151,14 +157,14 @@ module _ (limit : ℕ) (s : Arbiter) (bytes : List ℕ) where
 -- ---- a step
 
 -- no room: nothing is done
-pub without-room : (t : Step) (given : Arbiter) (old : List ℕ) → length old < lineRoom maxPlaces → noRoom given old ≡ inBuffer maxPlaces t given old
+pub without-room : (t : Step) (given : State) (old : List ℕ) → length old < lineRoom maxPlaces → noRoom given old ≡ inBuffer maxPlaces t given old
 without-room t given old h = rw (lt-leb (lineRoom maxPlaces) (length old) h)
 
 -- room: the step's text is written
-pub with-room : (given : Arbiter) {t named : Step} (old : List ℕ) → lineRoom maxPlaces ≤ length old → t ≡ named → written t old ≡ inBuffer maxPlaces named given old
+pub with-room : (given : State) {t named : Step} (old : List ℕ) → lineRoom maxPlaces ≤ length old → t ≡ named → written t old ≡ inBuffer maxPlaces named given old
 with-room given {t} {named} old h e = rw (le-leb (lineRoom maxPlaces) (length old) h, e)
 
-module _ (limit : ℕ) (s : Arbiter) (rest : List ℕ) where
+module _ (limit : ℕ) (s : State) (rest : List ℕ) where
   pub step-unsound : sound limit s ≡ false → last (refusedLine (refusal 23)) s ≡ step limit s rest
   unfolding step
   step-unsound e = rw e
@@ -172,7 +178,7 @@ module _ (limit : ℕ) (s : Arbiter) (rest : List ℕ) where
   step-slot e some = rw (e, ne-eqb (length rest) 0 some)
 
 module _ (limit : ℕ) (input : List ℕ) where
-  pub first-begins : (s : Arbiter) (rest : List ℕ) → read s rest ≡ begun limit input → more header s rest ≡ firstStep limit input
+  pub first-begins : (s : State) (rest : List ℕ) → read s rest ≡ begun limit input → more header s rest ≡ firstStep limit input
   unfolding firstStep headed
   first-begins s rest e = rw (← e)
 

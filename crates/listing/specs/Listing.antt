@@ -7,55 +7,54 @@ use lib.Dec.{eqb}
 use lib.ListN.{length}
 use Rattle.lists.specs.Choices.{pick}
 use Rattle.lists.specs.Runs.{Result}
-use Rattle.arbiter.specs.declared.state.Arbiter.{Arbiter}
-use Rattle.arbiter.specs.Refusals.{refusal}
-use Rattle.arbiter.specs.Answers.{Answer, accepted, granted, idle, refused, unless}
-use Rattle.arbiter.specs.State.{sound}
-use Rattle.arbiter.specs.Start.{noState}
+use Rattle.terms.specs.State.{State, sound}
+use Rattle.terms.specs.Refusals.{refusal}
+use Rattle.terms.specs.Answers.{Answer, accepted, granted, idle, refused, unless}
+use Rattle.terms.specs.Start.{noState}
 use Rattle.table_bytes.specs.Reading.{Read, read, stop}
 use Rattle.rule.specs.declared.rule.Grant.the-variants.{Nobody, Place}
-use Rattle.calls.specs.Calls.{post, slot, called}
+use Rattle.rule.specs.Calls.{post, slot, called}
 use Rattle.lines.specs.Lines.{header, endLine, refusedLine, slotLine}
 use Rattle.reads.specs.Reads.{countsRead, begun}
 
 pub data Step : Type 0 where
   -- print the text, and go on from this state with the rest of the input
-  more : (text : List ℕ) → Arbiter → (rest : List ℕ) → Step
+  more : (text : List ℕ) → State → (rest : List ℕ) → Step
   -- print the text, and stop with this state
-  last : (text : List ℕ) → Arbiter → Step
+  last : (text : List ℕ) → State → Step
 
 -- ---- a slot
 
 -- the counts are posted from place p on, until one is refused
-unfoldable pub posted : ℕ → Arbiter → (p : ℕ) → (counts : List ℕ) → Result Arbiter Answer
+unfoldable pub posted : ℕ → State → (p : ℕ) → (counts : List ℕ) → Result State Answer
 posted limit s p [] = record { state = s; answer = accepted }
 posted limit s p (count ∷ counts) =
     let one = called limit s (post p count) in
     unless (one .answer) (λ why. one) (posted limit (one .state) (suc p) counts)
 
 -- and then the slot
-unfoldable pub played : ℕ → Arbiter → (counts : List ℕ) → Result Arbiter Answer
+unfoldable pub played : ℕ → State → (counts : List ℕ) → Result State Answer
 played limit s counts =
     let filled = posted limit s 0 counts in
     unless (filled .answer) (λ why. filled) (called limit (filled .state) slot)
 
 -- A slot's line, and the state after the slot. A refusal stops; no line stands for its slot, and the state is the one before the slot's
 -- counts. A slot is never just accepted.
-unfoldable pub slotTold : (before : Arbiter) → Answer → (after : Arbiter) → (rest : List ℕ) → Step
+unfoldable pub slotTold : (before : State) → Answer → (after : State) → (rest : List ℕ) → Step
 slotTold before (granted stamp p) after rest = more (slotLine stamp (Place p) after) after rest
 slotTold before (idle stamp) after rest = more (slotLine stamp Nobody after) after rest
 slotTold before (refused why) after rest = last (refusedLine why) before
 slotTold before accepted after rest = last [] before
 
 -- a slot's counts are all read, and only then posted
-unfoldable pub slotStep : ℕ → Arbiter → Read (List ℕ) → Step
+unfoldable pub slotStep : ℕ → State → Read (List ℕ) → Step
 slotStep limit s (read counts rest) = let done = played limit s counts in slotTold s (done .answer) (done .state) rest
 slotStep limit s (stop why) = last (refusedLine why) s
 
 -- One slot from the rest of the input, or a clean end where nothing is left of it, before the first slot too. It starts at slot 0, so
 -- the slot number is the number of slots. A state that breaks a rule, which no accepted start makes and no step goes on with, is refused
 -- 23 before all else; the paper leaves that free.
-unfoldable pub step : ℕ → Arbiter → (rest : List ℕ) → Step
+unfoldable pub step : ℕ → State → (rest : List ℕ) → Step
 step limit s rest =
     pick (sound limit s)
     (pick (eqb (length rest) 0) (last (endLine (s .slot .0)) s) (slotStep limit s (countsRead (s .table .count) rest)))
@@ -64,7 +63,7 @@ step limit s rest =
 -- ---- the beginning
 
 -- the header goes ahead of everything, a refusal too
-unfoldable pub headed : ℕ → Read Arbiter → Step
+unfoldable pub headed : ℕ → Read State → Step
 headed limit (read s rest) = more header s rest
 headed limit (stop why) = last (header ++ refusedLine why) (noState limit)
 

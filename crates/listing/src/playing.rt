@@ -1,20 +1,21 @@
 // A slot with its counts: they are posted from place 0 on, and then the slot is done.
 use arbiter::state::Arbiter;
-use arbiter::units::Transfers;
-use calls::post::PostAnswer;
 use calls::post::PostResult;
 use calls::post::post;
-use calls::slot::SlotAnswer;
 use calls::slot::SlotResult;
 use calls::slot::slot;
+use terms::answers::PostAnswer;
+use terms::answers::SlotAnswer;
+use terms::units::Transfers;
 ghost use mathlib.Core.Path.{_≡_};
-ghost use Rattle.arbiter.specs.Limits.{maxPlaces};
-ghost use Rattle.calls.specs.Calls.{postResultOf, slotResultOf};
+ghost use Rattle.terms.specs.Limits.{maxPlaces};
+ghost use Rattle.arbiter.specs.ByValue.{held};
+ghost use Rattle.calls.specs.ByValue.{postResultOf, slotResultOf};
 ghost use Rattle.listing.specs.Listing.{posted, played};
 
 // The counts are posted from place 0 on, until one is refused.
 fn post_counts(s: Arbiter, counts: &[u32]) -> PostResult
-    ensures { λ r. ⌜ postResultOf r ≡ posted maxPlaces s 0 (now (counts .entry)) ⌝ }
+    ensures { λ r. ⌜ postResultOf r ≡ posted maxPlaces (held s) 0 (now (counts .entry)) ⌝ }
 {
     let mut state = s;
     let mut p: usize = 0;
@@ -41,7 +42,7 @@ fn post_counts(s: Arbiter, counts: &[u32]) -> PostResult
 
 // The counts are posted, and then the slot is done.
 pub(crate) fn play(s: Arbiter, counts: &[u32]) -> SlotResult
-    ensures { λ r. ⌜ slotResultOf r ≡ played maxPlaces s (now (counts .entry)) ⌝ }
+    ensures { λ r. ⌜ slotResultOf r ≡ played maxPlaces (held s) (now (counts .entry)) ⌝ }
 {
     let posted = post_counts(s, counts);
     let ready = posted.state;

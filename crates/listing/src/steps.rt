@@ -1,11 +1,9 @@
 // The steps of the program: each puts its text at the start of a lent buffer, and hands on the state and how much of the input it took.
 use crate::playing::play;
-use arbiter::refusals::Cause;
-use arbiter::refusals::StateRefusal;
-use arbiter::start::no_state;
 use arbiter::state::Arbiter;
-use calls::slot::SlotAnswer;
 use calls::slot::SlotResult;
+use layout::words::count;
+use layout::words::slot_number;
 use lines::lines::put_end;
 use lines::lines::put_header;
 use lines::lines::put_refused;
@@ -15,16 +13,21 @@ use reads::beginning::begin;
 use reads::counts::Counted;
 use reads::counts::read_counts;
 use rule::rule::Grant;
+use soundness::soundness::is_sound;
+use terms::answers::SlotAnswer;
+use terms::refusals::Cause;
+use terms::refusals::StateRefusal;
 ghost use mathlib.Core.Path.{_≡_};
 ghost use mathlib.Core.Bool.{true};
 ghost use mathlib.Core.List.{List};
 ghost use Prim.Native.Nat.{ℕ, _≤_};
 ghost use lib.ListN.{length, drop};
-ghost use Rattle.arbiter.specs.Limits.{maxPlaces};
-ghost use Rattle.arbiter.specs.Refusals.{refusalOf};
-ghost use Rattle.arbiter.specs.State.{sound};
-ghost use Rattle.arbiter.specs.Start.{noState};
-ghost use Rattle.calls.specs.Calls.{slotAnswerOf};
+ghost use Rattle.terms.specs.Limits.{maxPlaces};
+ghost use Rattle.terms.specs.Refusals.{refusalOf};
+ghost use Rattle.terms.specs.State.{sound};
+ghost use Rattle.terms.specs.Start.{noState};
+ghost use Rattle.arbiter.specs.ByValue.{held};
+ghost use Rattle.terms.specs.Answers.{slotAnswerOf};
 ghost use Rattle.lines.specs.Lines.{refusedLine};
 ghost use Rattle.reads.specs.Reads.{countsRead};
 ghost use Rattle.listing.specs.Listing.{last, slotTold, slotStep, step, firstStep};
@@ -48,7 +51,7 @@ pub struct StepResult {
 // The refusal's line, and the state as it was.
 fn refuse(s: Arbiter, why: Cause, out: &mut [u8]) -> StepResult
     requires { ⌜ lineRoom maxPlaces ≤ length (now out) ⌝ }
-    ensures { λ r. ⌜ ((bytes : List ℕ) → outcomeOf bytes r (now (out .exit)) ≡ written (last (refusedLine (refusalOf why)) s) (now (out .entry))) ⌝ }
+    ensures { λ r. ⌜ ((bytes : List ℕ) → outcomeOf bytes r (now (out .exit)) ≡ written (last (refusedLine (refusalOf why)) (held s)) (now (out .entry))) ⌝ }
     ensures took { λ r. ⌜ takenBy (r .told) ≡ 0 ⌝ }
     ensures wrote { λ r. ⌜ wroteBy (r .told) ≤ length (now (out .entry)) ⌝ }
 {
@@ -60,21 +63,22 @@ fn refuse(s: Arbiter, why: Cause, out: &mut [u8]) -> StepResult
 
 // What a slot came to, whose counts took so many bytes: its line, or the refusal's.
 fn tell(before: Arbiter, done: SlotResult, taken: usize, out: &mut [u8]) -> StepResult
-    requires { ⌜ (lineRoom maxPlaces ≤ length (now out)) × (done .state .table .count ≤ maxPlaces) ⌝ }
-    ensures { λ r. ⌜ ((bytes : List ℕ) → outcomeOf bytes r (now (out .exit)) ≡ written (slotTold before (slotAnswerOf (done .answer)) (done .state) (drop taken bytes)) (now (out .entry))) ⌝ }
+    requires { ⌜ (lineRoom maxPlaces ≤ length (now out)) × (held (done .state) .table .count ≤ maxPlaces) ⌝ }
+    ensures { λ r. ⌜ ((bytes : List ℕ) → outcomeOf bytes r (now (out .exit)) ≡ written (slotTold (held before) (slotAnswerOf (done .answer)) (held (done .state)) (drop taken bytes)) (now (out .entry))) ⌝ }
     ensures took { λ r. ⌜ takenBy (r .told) ≤ taken ⌝ }
     ensures wrote { λ r. ⌜ wroteBy (r .told) ≤ length (now (out .entry)) ⌝ }
 {
     let after = done.state;
+    let words = after.words;
     let answer = done.answer;
     match answer {
         SlotAnswer::Granted(stamp, p) => StepResult {
             state: after,
-            told: Told::More(put_slot(stamp, Grant::Place(p), after, out), taken),
+            told: Told::More(put_slot(stamp, Grant::Place(p), &words, out), taken),
         },
         SlotAnswer::Idle(stamp) => StepResult {
             state: after,
-            told: Told::More(put_slot(stamp, Grant::Nobody, after, out), taken),
+            told: Told::More(put_slot(stamp, Grant::Nobody, &words, out), taken),
         },
         SlotAnswer::Refused(c) => refuse(before, c, out),
     }
@@ -82,13 +86,13 @@ fn tell(before: Arbiter, done: SlotResult, taken: usize, out: &mut [u8]) -> Step
 
 // A slot of a sound state: its counts are read, posted and played.
 fn play_slot(s: Arbiter, rest: &[u8], out: &mut [u8]) -> StepResult
-    requires { ⌜ (lineRoom maxPlaces ≤ length (now out)) × (sound maxPlaces s ≡ true) ⌝ }
-    ensures { λ r. ⌜ outcomeOf (now (rest .entry)) r (now (out .exit)) ≡ written (slotStep maxPlaces s (countsRead (s .table .count) (now (rest .entry)))) (now (out .entry)) ⌝ }
+    requires { ⌜ (lineRoom maxPlaces ≤ length (now out)) × (sound maxPlaces (held s) ≡ true) ⌝ }
+    ensures { λ r. ⌜ outcomeOf (now (rest .entry)) r (now (out .exit)) ≡ written (slotStep maxPlaces (held s) (countsRead (held s .table .count) (now (rest .entry)))) (now (out .entry)) ⌝ }
     ensures took { λ r. ⌜ takenBy (r .told) ≤ length (now (rest .entry)) ⌝ }
     ensures wrote { λ r. ⌜ wroteBy (r .told) ≤ length (now (out .entry)) ⌝ }
 {
-    let t = s.table;
-    let n = t.count;
+    let words = s.words;
+    let n = count(&words);
     let read = read_counts(rest, n);
     let counts = read.counts;
     let answer = read.answer;
@@ -103,7 +107,7 @@ fn play_slot(s: Arbiter, rest: &[u8], out: &mut [u8]) -> StepResult
 
 // One slot from the rest of the input, or the end. Its line may be a refusal's: 23, 8, 9, 21, 22.
 pub fn step(s: Arbiter, rest: &[u8], out: &mut [u8]) -> StepResult
-    ensures { λ r. ⌜ outcomeOf (now (rest .entry)) r (now (out .exit)) ≡ inBuffer maxPlaces (step maxPlaces s (now (rest .entry))) s (now (out .entry)) ⌝ }
+    ensures { λ r. ⌜ outcomeOf (now (rest .entry)) r (now (out .exit)) ≡ inBuffer maxPlaces (step maxPlaces (held s) (now (rest .entry))) (held s) (now (out .entry)) ⌝ }
     ensures took { λ r. ⌜ takenBy (r .told) ≤ length (now (rest .entry)) ⌝ }
     ensures wrote { λ r. ⌜ wroteBy (r .told) ≤ length (now (out .entry)) ⌝ }
 {
@@ -113,11 +117,12 @@ pub fn step(s: Arbiter, rest: &[u8], out: &mut [u8]) -> StepResult
             told: Told::NoRoom,
         };
     }
-    if !s.is_sound() {
+    let words = s.words;
+    if !is_sound(&words) {
         return refuse(s, Cause::State(StateRefusal::Unsound), out);
     }
     if rest.len() == 0 {
-        let slots = s.slot;
+        let slots = slot_number(&words);
         return StepResult {
             state: s,
             told: Told::Last(put_end(slots, out)),
@@ -134,7 +139,7 @@ pub fn first_step(input: &[u8], out: &mut [u8]) -> StepResult
 {
     if out.len() < LINE_ROOM {
         return StepResult {
-            state: no_state(),
+            state: Arbiter::none(),
             told: Told::NoRoom,
         };
     }
@@ -150,7 +155,7 @@ pub fn first_step(input: &[u8], out: &mut [u8]) -> StepResult
         Beginning::Refused(c) => {
             let wrote = put_refused(c, &mut out[at..]);
             StepResult {
-                state: no_state(),
+                state: Arbiter::none(),
                 told: Told::Last(at + wrote),
             }
         }

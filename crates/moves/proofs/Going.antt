@@ -9,18 +9,17 @@ use borrow.Rule.Slice.PartMut.{putMid}
 use lib.ListN.{length, take, drop}
 use Rattle.lists.specs.Runs.{Result}
 use Rattle.lists.specs.Overwriting.{writtenOver}
-use Rattle.arbiter.specs.declared.state.Arbiter.{Arbiter}
-use Rattle.arbiter.specs.Limits.{maxPlaces, maxInput, maxSlot}
-use Rattle.arbiter.specs.Refusals.{faultless, fault, refusal, gate, then}
-use Rattle.arbiter.specs.Input.{inputVerdict}
-use Rattle.arbiter.specs.Answers.{Answer, granted, idle, refused}
-use Rattle.arbiter.specs.State.{sound}
+use Rattle.terms.specs.State.{State, sound}
+use Rattle.terms.specs.Limits.{maxInput, maxSlot}
+use Rattle.terms.specs.Refusals.{faultless, fault, refusal, gate, then}
+use Rattle.terms.specs.Input.{inputVerdict}
+use Rattle.terms.specs.Answers.{Answer, granted, idle, refused}
 use Rattle.rule.specs.declared.rule.Grant.{Grant}
 use Rattle.rule.specs.declared.rule.Grant.the-variants.{Nobody, Place}
-use Rattle.calls.specs.Calls.{slot, grantOf, advanced, slotAnswer, done, called}
-use Rattle.calls.proofs.Verdicts.{called-unsound, called-refused, called-done, slot-at-limit, slot-below-limit}
-use Rattle.run.specs.Log.{grantByte, slotsState, slotsLog, slotsVerdict}
-use Rattle.run.proofs.Logs.{Along, along-none, along-length, along-next, along-all, slots-sound, byte-fits, lengthVerdict}
+use Rattle.rule.specs.Calls.{slot, grantOf, advanced, slotAnswer, done, called}
+use Rattle.rule.proofs.Verdicts.{called-unsound, called-refused, called-done, slot-at-limit, slot-below-limit}
+use Rattle.rule.specs.Log.{grantByte, slotsState, slotsLog, slotsVerdict}
+use Rattle.rule.proofs.Logs.{Along, along-none, along-length, along-next, along-all, slots-sound, byte-fits, lengthVerdict}
 use Rattle.layout.specs.Words.{roomOf, stateOf}
 use Rattle.moves.specs.Moves.{Ready}
 use Rattle.moves.proofs.Readiness.{length-is, held, ready-next}
@@ -28,13 +27,13 @@ use Rattle.moves.proofs.Readiness.{length-is, held, ready-next}
 -- ---- one slot
 
 module _ (words : List ℕ) where
-  abbrev s : Arbiter
+  abbrev s : State
   s = stateOf words
 
-  abbrev whole : Result Arbiter Answer
+  abbrev whole : Result State Answer
   whole = called (roomOf words) s slot
 
-  abbrev turned : ℕ → Result Arbiter Answer
+  abbrev turned : ℕ → Result State Answer
   turned number = record { state = s; answer = refused (refusal number) }
 
   pub slot-23 : sound (roomOf words) s ≡ false → turned 23 ≡ whole
@@ -45,14 +44,14 @@ module _ (words : List ℕ) where
     slot-22 h = sym (called-refused (roomOf words) s slot passes _ (slot-at-limit s h))
 
     module _ (below : s .slot .0 < maxSlot) (left : List ℕ) (next : stateOf left ≡ advanced s (grantOf s)) (stamp : ℕ) (number : stamp ≡ s .slot .0) where
-      told : (g : Grant) → g ≡ grantOf s → _≡_ {A = Result Arbiter Answer} (record { state = stateOf left; answer = slotAnswer stamp g }) whole
+      told : (g : Grant) → g ≡ grantOf s → _≡_ {A = Result State Answer} (record { state = stateOf left; answer = slotAnswer stamp g }) whole
       unfolding done
       told g e = rw (next, number, e) (sym (called-done (roomOf words) s slot passes (slot-below-limit s below)))
 
-      pub slot-idle : Nobody ≡ grantOf s → _≡_ {A = Result Arbiter Answer} (record { state = stateOf left; answer = idle stamp }) whole
+      pub slot-idle : Nobody ≡ grantOf s → _≡_ {A = Result State Answer} (record { state = stateOf left; answer = idle stamp }) whole
       slot-idle e = told Nobody e
 
-      pub slot-granted : (p : ℕ) → Place p ≡ grantOf s → _≡_ {A = Result Arbiter Answer} (record { state = stateOf left; answer = granted stamp p }) whole
+      pub slot-granted : (p : ℕ) → Place p ≡ grantOf s → _≡_ {A = Result State Answer} (record { state = stateOf left; answer = granted stamp p }) whole
       slot-granted p e = told (Place p) e
 
 -- ---- a run
@@ -95,7 +94,7 @@ module _ (old : List ℕ) (d n : ℕ) (old-log : List ℕ) (r : Ready old d n) (
   going-all h = along-all (v .along) h
 
 -- 13, then 22
-module _ (s : Arbiter) (old : List ℕ) where
+module _ (s : State) (old : List ℕ) where
   pub length-13 : maxInput < length old → lengthVerdict 0 s old ≡ fault (refusal 13)
   unfolding inputVerdict gate then
   length-13 h = rw (lt-leb (length old) maxInput h)

@@ -4,18 +4,16 @@ use mathlib.Core.Bool.{true}
 use mathlib.Core.List.{List}
 use Prim.Native.Nat.{ℕ, _+_, _≤_, _<_, _^_}
 use native.Mathlib.Omega.{arith}
-use lib.ListN.{length, getD, take}
+use lib.ListN.{length, getD}
 use lib.Seq.{getD-take}
-use Rattle.arbiter.specs.declared.state.Arbiter.{Arbiter}
-use Rattle.arbiter.specs.Limits.{maxPlaces, maxBacklog, maxSlot}
-use Rattle.arbiter.specs.Table.{rate, noRequestor, requestorAt, requestorsOf}
-use Rattle.arbiter.specs.State.{credit, backlog, accountAt, sound}
-use Rattle.arbiter.proofs.Checks.{Fair}
-use Rattle.arbiter.proofs.Sound.{Sound, sound-open, sound-shut, sound-fair, row-at, credit-most}
+use Rattle.terms.specs.State.{State, credit, accountAt, sound}
+use Rattle.terms.specs.Limits.{maxPlaces, maxSlot}
+use Rattle.terms.specs.Table.{rate, noRequestor, requestorAt}
+use Rattle.terms.proofs.Sound.{Sound, sound-open, sound-shut, sound-fair, row-at, credit-most}
 use Rattle.rule.specs.declared.rule.Grant.{Grant}
-use Rattle.calls.specs.Calls.{grantOf, advanced}
-use Rattle.run.proofs.Kept.{advanced-sound}
-use Rattle.layout.specs.Words.{wordCount, roomOf, rightLength, rowIn, accountIn, wordsState, stateOf, putSlotNumber, withSlot}
+use Rattle.rule.specs.Calls.{grantOf, advanced}
+use Rattle.rule.proofs.Kept.{advanced-sound}
+use Rattle.layout.specs.Words.{wordCount, roomOf, rightLength, accountIn, wordsState, stateOf, putSlotNumber, withSlot}
 use Rattle.layout.proofs.RoundTrip.{Right, right, words-shaped}
 use Rattle.layout.proofs.RoundTrip as state
 use Rattle.layout.proofs.Stores.{put-slot, put-slot-length, same-room, right-stands}
@@ -23,7 +21,7 @@ use Rattle.walk.specs.Walk.{Roomy, slotAmong, grantAmong}
 use Rattle.moves.specs.Moves.{Ready}
 
 -- a credit and a rate of a sound state add up within 64 bits, for any room that is not above the largest N
-sum-fits : (room : ℕ) (s : Arbiter) → room ≤ maxPlaces → Sound room s → (p : ℕ) → p < s .table .count
+sum-fits : (room : ℕ) (s : State) → room ≤ maxPlaces → Sound room s → (p : ℕ) → p < s .table .count
     → credit (accountAt p (s .accounts)) + rate (requestorAt p (s .table .requestors)) < 2 ^ 64
 sum-fits room s few v p h =
     let f = sound-fair room s v in

@@ -1,2 +1,2 @@
--- Words that passed test 23, with their D and N. What post, slot and run do stands in calls and in run.
+-- Words that passed test 23, with their D and N. What post, slot and run do stands in rule.
 pub mod Moves

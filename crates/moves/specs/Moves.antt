@@ -3,8 +3,8 @@ use mathlib.Core.Path.{_≡_}
 use mathlib.Core.Bool.{true}
 use mathlib.Core.List.{List}
 use Prim.Native.Nat.{ℕ}
-use Rattle.arbiter.specs.Limits.{maxPlaces}
-use Rattle.arbiter.specs.State.{sound}
+use Rattle.terms.specs.Limits.{maxPlaces}
+use Rattle.terms.specs.State.{sound}
 use Rattle.layout.specs.Words.{roomOf, rightLength, stateOf}
 
 pub record Ready (words : List ℕ) (d n : ℕ) : Type 0 where

@@ -1,19 +1,20 @@
 // A post adds a count to one place's backlog.
-use arbiter::refusals::Cause;
-use arbiter::refusals::InputRefusal;
-use arbiter::refusals::StateRefusal;
-use arbiter::state::Account;
 use arbiter::state::Arbiter;
-use arbiter::units::Transfers;
-use calls::post::PostAnswer;
 use layout::words::account;
 use layout::words::count;
 use layout::words::put_account;
 use soundness::soundness::is_sound;
+use terms::answers::PostAnswer;
+use terms::place::Account;
+use terms::refusals::Cause;
+use terms::refusals::InputRefusal;
+use terms::refusals::StateRefusal;
+use terms::units::Transfers;
 ghost use mathlib.Core.Path.{_≡_};
 ghost use mathlib.Core.Bool.{true};
-ghost use Rattle.arbiter.specs.Limits.{maxPlaces};
-ghost use Rattle.calls.specs.Calls.{post, called, postAnswerOf};
+ghost use Rattle.terms.specs.Limits.{maxPlaces};
+ghost use Rattle.rule.specs.Calls.{post, called};
+ghost use Rattle.terms.specs.Answers.{postAnswerOf};
 ghost use Rattle.layout.specs.Words.{roomOf, rightLength, stateOf};
 
 // Refused: 23, 11, 21.

@@ -1,24 +1,25 @@
 // A run: as many slots as a lent log has bytes. The words are tested once; each slot is given only the unwritten rest of the log.
 use crate::slots::advance;
-use arbiter::refusals::Cause;
-use arbiter::refusals::InputRefusal;
-use arbiter::refusals::StateRefusal;
 use arbiter::state::Arbiter;
 use layout::words::count;
 use layout::words::denominator;
 use layout::words::slot_number;
 use rule::rule::Grant;
-use run::run::RunAnswer;
 use soundness::soundness::is_sound;
+use terms::answers::RunAnswer;
+use terms::refusals::Cause;
+use terms::refusals::InputRefusal;
+use terms::refusals::StateRefusal;
 ghost use mathlib.Core.Path.{_≡_};
 ghost use mathlib.Core.Bool.{true};
 ghost use mathlib.Core.List.{[], _∷_};
 ghost use Prim.Native.Nat.{_+_, _≤_, _<_};
 ghost use lib.ListN.{length};
 ghost use Rattle.lists.specs.Overwriting.{writtenOver};
-ghost use Rattle.arbiter.specs.Limits.{maxPlaces, maxSlot};
-ghost use Rattle.calls.specs.Calls.{grantOf, advanced};
-ghost use Rattle.run.specs.Log.{grantByte, slotsState, slotsLog, run, runAnswerOf};
+ghost use Rattle.terms.specs.Limits.{maxPlaces, maxSlot};
+ghost use Rattle.rule.specs.Calls.{grantOf, advanced};
+ghost use Rattle.rule.specs.Log.{grantByte, slotsState, slotsLog, run};
+ghost use Rattle.terms.specs.Answers.{runAnswerOf};
 ghost use Rattle.layout.specs.Words.{roomOf, rightLength, stateOf};
 ghost use Rattle.moves.specs.Moves.{Ready};
 

@@ -1,20 +1,21 @@
 // A slot: whom it grants, every account moves on, and the slot number goes up by 1.
-use arbiter::refusals::Cause;
-use arbiter::refusals::StateRefusal;
 use arbiter::state::Arbiter;
-use arbiter::units::Slots;
-use calls::slot::SlotAnswer;
 use layout::words::count;
 use layout::words::denominator;
 use layout::words::put_slot_number;
 use layout::words::slot_number;
 use rule::rule::Grant;
 use soundness::soundness::is_sound;
+use terms::answers::SlotAnswer;
+use terms::refusals::Cause;
+use terms::refusals::StateRefusal;
+use terms::units::Slots;
 use walk::slot::one_slot;
 ghost use mathlib.Core.Path.{_≡_};
 ghost use mathlib.Core.Bool.{true};
-ghost use Rattle.arbiter.specs.Limits.{maxPlaces};
-ghost use Rattle.calls.specs.Calls.{slot, called, slotAnswerOf, grantOf, advanced};
+ghost use Rattle.terms.specs.Limits.{maxPlaces};
+ghost use Rattle.rule.specs.Calls.{slot, called, grantOf, advanced};
+ghost use Rattle.terms.specs.Answers.{slotAnswerOf};
 ghost use Rattle.layout.specs.Words.{roomOf, rightLength, stateOf};
 ghost use Rattle.moves.specs.Moves.{Ready};
 

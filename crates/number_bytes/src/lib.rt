@@ -8,7 +8,7 @@ ghost use lib.ListN.{length};
 ghost use Rattle.lists.specs.Sums.{joined};
 ghost use Rattle.lists.specs.Overwriting.{writtenOver};
 ghost use Rattle.groups.specs.Groups.{numberBytes};
-ghost use Rattle.arbiter.specs.Limits.{maxPlaces};
+ghost use Rattle.terms.specs.Limits.{maxPlaces};
 
 // A table's numbers: D, N, and four to each place.
 pub const MAX_NUMBERS: usize = 2 + 4 * Arbiter::MAX_PLACES;

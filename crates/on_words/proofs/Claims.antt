@@ -13,35 +13,33 @@ use Rattle.lists.specs.Overwriting.{writtenOver}
 use Rattle.lists.specs.Runs.{Result, end, answers}
 use Rattle.lists.proofs.Tests.{cases, true-false, and-true, true-and}
 use Rattle.lists.proofs.Overwriting.{length-over}
-use Rattle.arbiter.specs.declared.refusals.Refusal.{Refusal}
-use Rattle.arbiter.specs.declared.state.Account.{Account}
-use Rattle.arbiter.specs.declared.state.Arbiter.{Arbiter}
-use Rattle.arbiter.specs.declared.table.Table.{Table}
-use Rattle.arbiter.specs.Refusals.{Verdict, faultless, fault, refusal, gate, then, resolve}
-use Rattle.arbiter.specs.Answers.{Answer, accepted, granted, idle, refused, unless}
-use Rattle.arbiter.specs.Table.{noRequestor, tableOf, denominatorBounds, countBounds, requestorsOf}
-use Rattle.arbiter.specs.State.{noAccount, sound, Shaped, placeVerdict}
-use Rattle.arbiter.specs.Start.{fresh, opening, noState, startVerdict, start}
-use Rattle.arbiter.specs.Asked as asked
-use Rattle.arbiter.proofs.Checks.{held-open}
-use Rattle.leads.specs.Lead as leads
+use Rattle.terms.specs.declared.refusals.Refusal.{Refusal}
+use Rattle.terms.specs.declared.place.Account.{Account}
+use Rattle.terms.specs.State.{State, noAccount, sound, Shaped, placeVerdict}
+use Rattle.terms.specs.Table.{Table, noRequestor, tableOf, denominatorBounds, countBounds, requestorsOf}
+use Rattle.terms.specs.Refusals.{Verdict, faultless, fault, refusal, gate, then, resolve}
+use Rattle.terms.specs.Answers.{Answer, accepted, granted, idle, refused, unless}
+use Rattle.terms.specs.Start.{fresh, opening, noState, startVerdict, start, turnedDown}
+use Rattle.terms.specs.Asked as asked
+use Rattle.terms.proofs.Checks.{held-open}
+use Rattle.lead_parts.specs.Lead as leads
 use Rattle.table_bytes.specs.Reading.{Read, read, stop, next, fieldRead, rowsRead, placesRead, numbersRead, lastVerdict, TableRead, accept, refuse, settled, readTable}
 use Rattle.table_bytes.specs.Writing as writing
 use Rattle.table_bytes.proofs.Accepted.{next-open, read-same, field-open, rows-open}
 use Rattle.rule.specs.declared.rule.Grant.{Grant}
 use Rattle.rule.specs.declared.rule.Grant.the-variants.{Nobody, Place}
-use Rattle.calls.specs.Calls.{Call, post, slot, grantOf, advanced, withPost, slotAnswer, done, ruleVerdict, outcome, called}
-use Rattle.calls.proofs.Verdicts.{called-unsound}
-use Rattle.run.specs.Log.{Outcome, slotsState, slotsLog, runVerdict, run}
-use Rattle.run.proofs.Slots.{after-length}
-use Rattle.run.proofs.Logs.{run-unsound}
+use Rattle.rule.specs.Calls.{Call, post, slot, grantOf, advanced, withPost, slotAnswer, done, ruleVerdict, outcome, called}
+use Rattle.rule.proofs.Verdicts.{called-unsound}
+use Rattle.rule.specs.Log.{Outcome, slotsState, slotsLog, runVerdict, run}
+use Rattle.rule.proofs.Slots.{after-length}
+use Rattle.rule.proofs.Logs.{run-unsound}
 use Rattle.layout.specs.Words.{wordCount, roomOf, rightLength, stateWords, stateOf}
 use Rattle.layout.specs.Numbers.{allNumbers, numbersRow, numbersTable, rightNumbers}
 use Rattle.layout.proofs.Items.{length-places}
 use Rattle.layout.proofs.RoundTrip.{right, words-read-back, words-of, state-written-back}
 use Rattle.layout.proofs.Stores.{zero-state}
 use Rattle.layout.proofs.TableNumbers.{numbers-read-back}
-use Rattle.starts.specs.Starts.{turnedDown, begun}
+use Rattle.starts.specs.Starts.{begun}
 use Rattle.asking.specs.Look as look
 use Rattle.outcomes.specs.Outcomes.{refusalCode, answerCode, wrongLength}
 use Rattle.outcomes.specs.Places.{Told}
@@ -56,7 +54,7 @@ and-one false = refl
 -- ---- one call
 
 -- a call on a state's words is the call on the state
-module _ {X : Type 0} (most room : ℕ) (s : Arbiter) (beside : Bool) (down : X) (call : ℕ → Arbiter → X) where
+module _ {X : Type 0} (most room : ℕ) (s : State) (beside : Bool) (down : X) (call : ℕ → State → X) where
   on-words : Fits most room s → beside ≡ true → onState most (stateWords s) beside down call ≡ call room s
   unfolding onState
   on-words v b =
@@ -102,25 +100,25 @@ write-by-value most room s buffer old v one ok = on-words most room s (eqb (leng
 -- ---- calls in a row
 
 -- a slot keeps the arrays' lengths, and so does a call
-pub slot-shaped : (room : ℕ) (s : Arbiter) (g : Grant) → Shaped room s → Shaped room (advanced s g)
+pub slot-shaped : (room : ℕ) (s : State) (g : Grant) → Shaped room s → Shaped room (advanced s g)
 unfolding advanced
 slot-shaped room s g h = record {
   rows = h .rows;
   accounts = after-length (s .table .denominator) g (requestorsOf (s .table)) (s .accounts) ∙ h .accounts;
 }
 
-outcome-shaped : (room : ℕ) (v : Verdict) (s : Arbiter) (c : Call) → Shaped room s → Shaped room (outcome v s c .state)
+outcome-shaped : (room : ℕ) (v : Verdict) (s : State) (c : Call) → Shaped room s → Shaped room (outcome v s c .state)
 unfolding done withPost
 outcome-shaped room faultless s (post p count) h = record { rows = h .rows; accounts = simp length-set (h .accounts) }
 outcome-shaped room faultless s slot h = slot-shaped room s (grantOf s) h
 outcome-shaped room (fault r) s c h = h
 
-pub call-shaped : (room : ℕ) (s : Arbiter) (c : Call) → Shaped room s → Shaped room (called room s c .state)
+pub call-shaped : (room : ℕ) (s : State) (c : Call) → Shaped room s → Shaped room (called room s c .state)
 unfolding called
 call-shaped room s c h = outcome-shaped room (gate (refusal 23) (sound room s) (ruleVerdict s c)) s c h
 
 -- a post leaves the lent answer
-post-answer : (v : Verdict) (s : Arbiter) (p count : ℕ) (old : List ℕ) → slotWords old (outcome v s (post p count) .answer) ≡ old
+post-answer : (v : Verdict) (s : State) (p count : ℕ) (old : List ℕ) → slotWords old (outcome v s (post p count) .answer) ≡ old
 unfolding done
 post-answer faultless s p count old = refl
 post-answer (fault r) s p count old = refl
@@ -133,10 +131,10 @@ answer-long old (idle stamp) two = refl
 answer-long old (refused r) two = two
 
 module _ (most room : ℕ) where
-  call-fits : (s : Arbiter) (c : Call) → Fits most room s → Fits most room (called room s c .state)
+  call-fits : (s : State) (c : Call) → Fits most room s → Fits most room (called room s c .state)
   call-fits s c v = record { shaped = call-shaped room s c (v .shaped); some = v .some; few = v .few }
 
-  one-call : (s : Arbiter) (c : Call) (old : List ℕ) → Fits most room s → length old ≡ 2
+  one-call : (s : State) (c : Call) (old : List ℕ) → Fits most room s → length old ≡ 2
       → lentCall most (record { words = stateWords s; answer = old }) c
       ≡ record { state = record { words = stateWords (called room s c .state); answer = slotWords old (called room s c .answer) }; answer = answerCode (called room s c .answer) }
   unfolding called
@@ -162,7 +160,7 @@ start-of : (room : ℕ) (t : Table) (first : ℕ) → length (t .requestors) ≡
 unfolding start opening
 start-of room t first rows = by (startVerdict room t first)
   where
-    made : Verdict → Result Arbiter Answer
+    made : Verdict → Result State Answer
     made v = resolve v (record { state = opening t first; answer = accepted }) (turnedDown room)
 
     by : (v : Verdict) → Shaped room (made v .state)
@@ -248,9 +246,9 @@ module _ {room outcome : ℕ} {Stands : Type 0} where
   never-255 (went e) f = omega arith
   never-255 (turned r t e s) f = code-apart room r t .1 (sym e ∙ f)
 
-module _ (room : ℕ) (s : Arbiter) where
+module _ (room : ℕ) (s : State) where
   -- a slot's answer is written nowhere where the slot was refused
-  abbrev Stands : Result Arbiter Answer → Type 0
+  abbrev Stands : Result State Answer → Type 0
   Stands r = (r .state ≡ s) × ((old : List ℕ) → slotWords old (r .answer) ≡ old)
 
   outcome-ends : (v : Verdict) (c : Call) → ((r : Refusal) → outcome v s c .answer ≡ refused r → Told room r)
@@ -334,7 +332,7 @@ module _ (room : ℕ) (s : Arbiter) where
 
 -- ---- what was not carried out
 
-module _ {X : Type 0} (out : X → ℕ) (most : ℕ) (words : List ℕ) (beside : Bool) (down : X) (call : ℕ → Arbiter → X) where
+module _ {X : Type 0} (out : X → ℕ) (most : ℕ) (words : List ℕ) (beside : Bool) (down : X) (call : ℕ → State → X) where
   abbrev here : X
   here = call (roomOf words) (stateOf words)
 
@@ -355,7 +353,7 @@ module _ {X : Type 0} (out : X → ℕ) (most : ℕ) (words : List ℕ) (beside 
 
 -- a state handed back is the same words
 module _ (most : ℕ) (words : List ℕ) (long : rightLength most words ≡ true) where
-  handed-back : (s : Arbiter) → s ≡ stateOf words → stateWords s ≡ words
+  handed-back : (s : State) → s ≡ stateOf words → stateWords s ≡ words
   handed-back s e = ap stateWords e ∙ state-written-back most words long
 
 pub post-refused : Post-refused
@@ -412,7 +410,7 @@ start-ends : (room : ℕ) (t : Table) (first : ℕ) → Ends room (answerCode (s
 unfolding start
 start-ends room t first = by (startVerdict room t first) (table-start-names-below room t first)
   where
-    made : Verdict → Result Arbiter Answer
+    made : Verdict → Result State Answer
     made v = resolve v (record { state = opening t first; answer = accepted }) (turnedDown room)
 
     by : (v : Verdict) → ((r : Refusal) → made v .answer ≡ refused r → Told room r) → Ends room (answerCode (made v .answer)) (made v .state ≡ noState room)
@@ -424,7 +422,7 @@ begun-ends : (room : ℕ) (bytes : List ℕ) (first : ℕ)
 unfolding begun
 begun-ends room bytes first = by (readTable room bytes .answer) (start-names-below room bytes first)
   where
-    goes-on : Result Arbiter Answer
+    goes-on : Result State Answer
     goes-on = start room (readTable room bytes .table) first
 
     by : (a : Answer) → ((r : Refusal) → unless a (turnedDown room) goes-on .answer ≡ refused r → Told room r)
@@ -442,7 +440,7 @@ clear-words most words long =
     sym (words-of (roomOf words) (replicate n 0) (noState (roomOf words)) all (zero-state (roomOf words) n))
 
 -- whatever made it
-module _ (most : ℕ) (words : List ℕ) (lengths : Bool) (d : Result Arbiter Answer) (ends : Ends (roomOf words) (answerCode (d .answer)) (d .state ≡ noState (roomOf words))) where
+module _ (most : ℕ) (words : List ℕ) (lengths : Bool) (d : Result State Answer) (ends : Ends (roomOf words) (answerCode (d .answer)) (d .state ≡ noState (roomOf words))) where
   clears : (lengths ≡ true → rightLength most words ≡ true) → Clears words (leaves lengths words d)
   unfolding leaves
   clears long = cases lengths
@@ -471,7 +469,7 @@ module _ (most : ℕ) (words : List ℕ) where
   abbrev room : ℕ
   room = roomOf words
 
-  abbrev held : Arbiter
+  abbrev held : State
   held = stateOf words
 
   -- of a call that is lent no answer the words' length alone counts
@@ -497,13 +495,13 @@ pub wrong-length : Wrong-length
 wrong-length most words = lengths most words
 
 -- the call on the state that the words are
-module _ {X : Type 0} (most : ℕ) (words : List ℕ) (beside : Bool) (down : X) (call : ℕ → Arbiter → X) where
+module _ {X : Type 0} (most : ℕ) (words : List ℕ) (beside : Bool) (down : X) (call : ℕ → State → X) where
   on-call : rightLength most words ≡ true → beside ≡ true → onState most words beside down call ≡ call (roomOf words) (stateOf words)
   unfolding onState
   on-call long b = rw (true-and _ _ long b)
 
 module _ (most : ℕ) (words : List ℕ) (long : rightLength most words ≡ true) (broken : sound (roomOf words) (stateOf words) ≡ false) where
-  abbrev s : Arbiter
+  abbrev s : State
   s = stateOf words
 
   code-23 : refusalCode (refusal 23) ≡ 23
@@ -511,7 +509,7 @@ module _ (most : ℕ) (words : List ℕ) (long : rightLength most words ≡ true
   code-23 = refl
 
   call-23 : (c : Call) → answerCode (called (roomOf words) s c .answer) ≡ 23
-  call-23 c = ap (λ (r : Result Arbiter Answer). answerCode (r .answer)) (called-unsound (roomOf words) s c broken) ∙ code-23
+  call-23 c = ap (λ (r : Result State Answer). answerCode (r .answer)) (called-unsound (roomOf words) s c broken) ∙ code-23
 
   place-23 : (p : ℕ) → placeVerdict (roomOf words) s p ≡ fault (refusal 23)
   unfolding placeVerdict gate

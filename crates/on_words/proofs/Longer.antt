@@ -14,28 +14,26 @@ use Rattle.lists.specs.Pairs.{paired}
 use Rattle.lists.specs.Runs.{Result}
 use Rattle.lists.proofs.Sums.{joined-append}
 use Rattle.lists.proofs.Tests.{cases}
-use Rattle.arbiter.specs.declared.refusals.Refusal.{Refusal}
-use Rattle.arbiter.specs.declared.table.Requestor.{Requestor}
-use Rattle.arbiter.specs.declared.table.Table.{Table}
-use Rattle.arbiter.specs.declared.state.Account.{Account}
-use Rattle.arbiter.specs.declared.state.Arbiter.{Arbiter}
-use Rattle.arbiter.specs.Refusals.{Verdict, faultless, fault, refusal, gate, then, resolve}
-use Rattle.arbiter.specs.Answers.{Answer}
-use Rattle.arbiter.specs.Table.{noRequestor, requestorClear, requestorAt, requestorsOf, heldTo, tailVerdict, rateSumVerdict, tableVerdict}
-use Rattle.arbiter.specs.Figures.{admissionVerdict}
-use Rattle.arbiter.specs.State.{noAccount, accountClear, accountAt, creditsHold, accountsHold, sound, Shaped, placeVerdict}
-use Rattle.arbiter.specs.Input.{inputVerdict}
-use Rattle.arbiter.specs.Asked.{figuresVerdict, figures}
-use Rattle.arbiter.proofs.Checks.{fair, Fair}
-use Rattle.arbiter.proofs.Sound.{sound-table}
-use Rattle.leads.specs.Lead.{leadVerdict, leadAsked}
+use Rattle.terms.specs.declared.refusals.Refusal.{Refusal}
+use Rattle.terms.specs.declared.place.Requestor.{Requestor}
+use Rattle.terms.specs.Table.{Table, noRequestor, requestorClear, requestorAt, requestorsOf, heldTo, tailVerdict, rateSumVerdict, tableVerdict}
+use Rattle.terms.specs.declared.place.Account.{Account}
+use Rattle.terms.specs.State.{State, noAccount, accountClear, accountAt, creditsHold, accountsHold, sound, Shaped, placeVerdict}
+use Rattle.terms.specs.Refusals.{Verdict, faultless, fault, refusal, gate, then, resolve}
+use Rattle.terms.specs.Answers.{Answer}
+use Rattle.terms.specs.Figures.{admissionVerdict}
+use Rattle.terms.specs.Input.{inputVerdict}
+use Rattle.terms.specs.Asked.{figuresVerdict, figures}
+use Rattle.terms.proofs.Checks.{fair, Fair}
+use Rattle.terms.proofs.Sound.{sound-table}
+use Rattle.lead_parts.specs.Lead.{leadVerdict, leadAsked}
 use Rattle.table_bytes.specs.Reading.{next}
 use Rattle.table_bytes.specs.Writing.{tableNumbers, tableBytes, writeVerdict, writeTable}
 use Rattle.rule.specs.declared.rule.Grant.{Grant}
 use Rattle.rule.specs.declared.rule.Grant.the-variants.{Nobody, Place}
 use Rattle.rule.specs.Rule.{firstEligible, after}
-use Rattle.calls.specs.Calls.{Call, post, slot, grantOf, advanced, withPost, done, ruleVerdict, outcome, called}
-use Rattle.run.specs.Log.{Outcome, grantByte, slotsState, slotsLog, slotsVerdict, runVerdict, run}
+use Rattle.rule.specs.Calls.{Call, post, slot, grantOf, advanced, withPost, done, ruleVerdict, outcome, called}
+use Rattle.rule.specs.Log.{Outcome, grantByte, slotsState, slotsLog, slotsVerdict, runVerdict, run}
 use Rattle.layout.specs.Words.{place, placeWords, stateWords}
 use Rattle.asking.specs.Look as look
 use Rattle.on_words.specs.Room.{more}
@@ -75,10 +73,10 @@ paired-append f (x ∷ xs) us (y ∷ ys) vs h = ap (λ l. f x y ∷ l) (paired-a
 abbrev pub longerTable : (extra : ℕ) → Table → Table
 longerTable extra t = record { denominator = t .denominator; count = t .count; requestors = t .requestors ++ replicate extra noRequestor }
 
-abbrev pub longer : (extra : ℕ) → Arbiter → Arbiter
+abbrev pub longer : (extra : ℕ) → State → State
 longer extra s = record { table = longerTable extra (s .table); slot = s .slot; accounts = s .accounts ++ replicate extra noAccount }
 
-pub longer-shaped : (room extra : ℕ) (s : Arbiter) → Shaped room s → Shaped (room + extra) (longer extra s)
+pub longer-shaped : (room extra : ℕ) (s : State) → Shaped room s → Shaped (room + extra) (longer extra s)
 longer-shaped room extra s v = record {
   rows = length-append (s .table .requestors) (replicate extra noRequestor) ∙ rw (v .rows, length-replicate extra noRequestor);
   accounts = length-append (s .accounts) (replicate extra noAccount) ∙ rw (v .accounts, length-replicate extra noAccount);
@@ -89,7 +87,7 @@ unfolding joined paired
 clear-words zero = refl
 clear-words (suc n) = let again : 6 * suc n ≡ suc (suc (suc (suc (suc (suc (6 * n)))))) = omega arith in rw (again, clear-words n)
 
-pub longer-words : (room extra : ℕ) (s : Arbiter) → Shaped room s → stateWords (longer extra s) ≡ more extra (stateWords s)
+pub longer-words : (room extra : ℕ) (s : State) → Shaped room s → stateWords (longer extra s) ≡ more extra (stateWords s)
 unfolding stateWords
 longer-words room extra s v =
     let clear = replicate extra noRequestor in
@@ -132,7 +130,7 @@ row-of-zeros room extra t rows over f =
     past (r ∷ rs) zero h = absurd (omega arith)
     past (r ∷ rs) (suc p) h = past rs p (omega arith)
 
-module _ (room extra : ℕ) (s : Arbiter) (v : Shaped room s) where
+module _ (room extra : ℕ) (s : State) (v : Shaped room s) where
   abbrev n : ℕ
   n = s .table .count
 
@@ -193,7 +191,7 @@ after-same d Nobody (r ∷ rs) (a ∷ accounts) even h = rw (after-same d Nobody
 after-same d (Place zero) (r ∷ rs) (a ∷ accounts) even h = rw (after-same d Nobody rs accounts even (omega arith))
 after-same d (Place (suc p)) (r ∷ rs) (a ∷ accounts) even h = rw (after-same d (Place p) rs accounts even (omega arith))
 
-module _ (room extra : ℕ) (s : Arbiter) (v : Shaped room s) (few : s .table .count ≤ room) where
+module _ (room extra : ℕ) (s : State) (v : Shaped room s) (few : s .table .count ≤ room) where
   abbrev places : List Requestor
   places = requestorsOf (s .table)
 
@@ -214,7 +212,7 @@ module _ (room extra : ℕ) (s : Arbiter) (v : Shaped room s) (few : s .table .c
   unfolding advanced
   slot-few g = few
 
-same-slots : (room extra k : ℕ) (s : Arbiter) → Shaped room s → s .table .count ≤ room
+same-slots : (room extra k : ℕ) (s : State) → Shaped room s → s .table .count ≤ room
     → (slotsState k (longer extra s) ≡ longer extra (slotsState k s)) × (slotsLog k (longer extra s) ≡ slotsLog k s)
 unfolding slotsState slotsLog
 same-slots room extra zero s v few = (refl, refl)
@@ -230,11 +228,11 @@ pub resolved : {X Y : Type 0} (f : X → Y) (w : Verdict) (x : X) (down : Refusa
 resolved f faultless x down = refl
 resolved f (fault r) x down = refl
 
-module _ (room extra : ℕ) (s : Arbiter) (v : Shaped room s) where
-  abbrev big : Arbiter
+module _ (room extra : ℕ) (s : State) (v : Shaped room s) where
+  abbrev big : State
   big = longer extra s
 
-  abbrev called-longer : Result Arbiter Answer → Result Arbiter Answer
+  abbrev called-longer : Result State Answer → Result State Answer
   called-longer d = record { state = longer extra (d .state); answer = d .answer }
 
   same-verdict : (c : Call) → ruleVerdict big c ≡ ruleVerdict s c

@@ -16,25 +16,23 @@ use Rattle.lists.specs.Runs.{Result, end}
 use Rattle.lists.proofs.Sums.{joined-append}
 use Rattle.lists.proofs.Tests.{cases, in-range-true, in-range}
 use Rattle.lists.proofs.Overwriting.{length-over}
-use Rattle.arbiter.specs.declared.refusals.Refusal.{Refusal}
-use Rattle.arbiter.specs.declared.table.Requestor.{Requestor}
-use Rattle.arbiter.specs.declared.table.Table.{Table}
-use Rattle.arbiter.specs.declared.state.Arbiter.{Arbiter}
-use Rattle.arbiter.specs.Refusals.{Verdict, faultless, fault, refusal, gate, then, resolve}
-use Rattle.arbiter.specs.Answers.{Answer, accepted, granted, idle, refused, unless}
-use Rattle.arbiter.specs.Table.{noRequestor, rowNumbers, tableOf, denominatorBounds, countBounds, heldTo, rateSumVerdict, tableVerdict}
-use Rattle.arbiter.specs.Figures.{admissionVerdict}
-use Rattle.arbiter.specs.State.{noAccount}
-use Rattle.arbiter.specs.Start.{fresh, opening, noState, startVerdict, start}
-use Rattle.arbiter.proofs.Checks.{held-open}
+use Rattle.terms.specs.declared.refusals.Refusal.{Refusal}
+use Rattle.terms.specs.declared.place.Requestor.{Requestor}
+use Rattle.terms.specs.Table.{Table, noRequestor, rowNumbers, tableOf, denominatorBounds, countBounds, heldTo, rateSumVerdict, tableVerdict}
+use Rattle.terms.specs.State.{State, noAccount}
+use Rattle.terms.specs.Refusals.{Verdict, faultless, fault, refusal, gate, then, resolve}
+use Rattle.terms.specs.Answers.{Answer, accepted, granted, idle, refused, unless}
+use Rattle.terms.specs.Figures.{admissionVerdict}
+use Rattle.terms.specs.Start.{fresh, opening, noState, startVerdict, start, turnedDown}
+use Rattle.terms.proofs.Checks.{held-open}
 use Rattle.table_bytes.specs.Reading.{Read, read, stop, next, numberRead, fieldRead, rowsRead, placesRead, numbersRead, lastVerdict, TableRead, accept, refuse, settled, readTable}
 use Rattle.table_bytes.proofs.Accepted.{field-open, rows-open}
 use Rattle.layout.specs.Numbers.{numberCount, rightNumbers, allNumbers, numbersTable}
 use Rattle.layout.proofs.TableNumbers.{numbers-read-back, table-written-back}
-use Rattle.starts.specs.Starts.{turnedDown, begun}
+use Rattle.starts.specs.Starts.{begun}
 use Rattle.on_words.specs.Room.{moreNumbers}
 use Rattle.on_words.proofs.Claims.{read-long, numbers-rows}
-use Rattle.on_words.proofs.Longer.{longerTable, longer, same-rows, same-table, resolved}
+use Rattle.on_words.proofs.Longer.{longerTable, longer, same-rows, same-table}
 
 -- ---- a start
 
@@ -62,7 +60,7 @@ two-above faultless rest long fin end last h = absurd (h refl)
 two-above (fault r) rest long fin end last h = refl
 
 module _ (room extra : ℕ) where
-  abbrev pub made-longer : Result Arbiter Answer → Result Arbiter Answer
+  abbrev pub made-longer : Result State Answer → Result State Answer
   made-longer d = record { state = longer extra (d .state); answer = d .answer }
 
   module _ (t : Table) (rows : length (t .requestors) ≡ room) (first : ℕ) where
@@ -79,8 +77,10 @@ module _ (room extra : ℕ) where
 
     pub same-start : (start room t first .answer ≡ refused (refusal 2) → ⊥) → start (room + extra) (longerTable extra t) first ≡ made-longer (start room t first)
     unfolding start
-    same-start h =
-        rw (same-start-verdict (λ e. h (rw e)), opened-longer extra t first, none-longer room extra) (resolved made-longer (startVerdict room t first) _ _)
+    same-start h = by (startVerdict room t first) refl where
+      by : (v : Verdict) → startVerdict room t first ≡ v → start (room + extra) (longerTable extra t) first ≡ made-longer (start room t first)
+      by faultless e = rw (same-start-verdict (λ f. h (rw f)), e, opened-longer extra t first)
+      by (fault r) e = rw (same-start-verdict (λ f. h (rw f)), e, none-longer room extra)
 
 -- ---- a table's bytes
 

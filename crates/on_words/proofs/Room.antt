@@ -8,12 +8,11 @@ use lib.Dec.{eqb}
 use lib.ListN.{length}
 use Rattle.lists.specs.Runs.{Result, end, answers}
 use Rattle.lists.proofs.Tests.{cases, and-true}
-use Rattle.arbiter.specs.declared.state.Arbiter.{Arbiter}
-use Rattle.arbiter.specs.Refusals.{Verdict, faultless, fault, refusal, resolve}
-use Rattle.arbiter.specs.Answers.{Answer, accepted, refused}
-use Rattle.arbiter.specs.State.{sound, Shaped}
-use Rattle.calls.specs.Calls.{Call, post, slot, grantOf, advanced, called}
-use Rattle.run.specs.Log.{Outcome, slotsState, slotsLog, runVerdict, run}
+use Rattle.terms.specs.State.{State, sound, Shaped}
+use Rattle.terms.specs.Refusals.{Verdict, faultless, fault, refusal, resolve}
+use Rattle.terms.specs.Answers.{Answer, accepted, refused}
+use Rattle.rule.specs.Calls.{Call, post, slot, grantOf, advanced, called}
+use Rattle.rule.specs.Log.{Outcome, slotsState, slotsLog, runVerdict, run}
 use Rattle.layout.specs.Words.{stateWords, roomOf, rightLength, stateOf}
 use Rattle.layout.specs.Numbers.{rightNumbers, numbersTable}
 use Rattle.layout.proofs.RoundTrip.{right, words-shaped, state-written-back, words-read-back, length-state}
@@ -28,12 +27,12 @@ use Rattle.on_words.proofs.LongerStart.{made-longer, same-start, same-b
 
 -- ---- the calls on words
 
-slots-shaped : (room k : ℕ) (s : Arbiter) → Shaped room s → Shaped room (slotsState k s)
+slots-shaped : (room k : ℕ) (s : State) → Shaped room s → Shaped room (slotsState k s)
 unfolding slotsState
 slots-shaped room zero s v = v
 slots-shaped room (suc k) s v = slots-shaped room k (advanced s (grantOf s)) (slot-shaped room s (grantOf s) v)
 
-run-shaped : (room : ℕ) (s : Arbiter) (log : List ℕ) → Shaped room s → Shaped room (run room s log .state)
+run-shaped : (room : ℕ) (s : State) (log : List ℕ) → Shaped room s → Shaped room (run room s log .state)
 unfolding run
 run-shaped room s log v = by (runVerdict room s (length log))
   where
@@ -45,7 +44,7 @@ module _ (most extra : ℕ) (words : List ℕ) (long : rightLength most words �
   abbrev room : ℕ
   room = roomOf words
 
-  abbrev held : Arbiter
+  abbrev held : State
   held = stateOf words
 
   shape : Shaped room held
@@ -60,14 +59,14 @@ module _ (most extra : ℕ) (words : List ℕ) (long : rightLength most words �
       rw more-words (back .0, back .1, rw (back .1) (back .2))
 
   -- what f makes of both ends of a call on the words is what the call on the longer ones comes to
-  on-more : {X : Type 0} (f : X → X) (beside : Bool) (down shut : X) (call : ℕ → Arbiter → X) → shut ≡ f down
+  on-more : {X : Type 0} (f : X → X) (beside : Bool) (down shut : X) (call : ℕ → State → X) → shut ≡ f down
       → call (room + extra) (longer extra held) ≡ f (call room held) → onState most (more extra words) beside shut call ≡ f (onState most words beside down call)
   unfolding onState
   on-more f beside down shut call a b =
       rw (read-more .0, read-more .2, read-more .1, long) (cases beside (λ q. rw q b) (λ q. rw q a))
 
   -- what a start leaves
-  on-leaves : (lengths wide : Bool) (made big : Result Arbiter Answer) → wide ≡ lengths → Shaped room (made .state)
+  on-leaves : (lengths wide : Bool) (made big : Result State Answer) → wide ≡ lengths → Shaped room (made .state)
       → (lengths ≡ true → (made .answer ≡ refused (refusal 2) → ⊥) → big ≡ made-longer room extra made) → Unless-2 extra (leaves lengths words made) (leaves wide (more extra words) big)
   unfolding leaves refusalCode
   on-leaves lengths wide made big e v same = rw e (cases lengths

@@ -5,26 +5,26 @@ use Rattle.lists.specs.Sums.{total, joined, every, upTo}
 use Rattle.lists.specs.Pairs.{paired}
 use Rattle.lists.specs.Overwriting.{writtenOver}
 use Rattle.groups.specs.Groups.{lastGroup, combined, laterGroups, numberOf, groupsOf, numberBytes}
-use Rattle.arbiter.specs.Refusals.{gate, then}
-use Rattle.arbiter.specs.Table.{tableOf, heldTo, rowVerdict, eachPlace, tailVerdict, rateSumVerdict, tableVerdict}
-use Rattle.arbiter.specs.Figures.{roundedUp, finish, finishVerdict, admissionVerdict}
-use Rattle.arbiter.specs.State.{accountsHold, sound, placeVerdict}
-use Rattle.arbiter.specs.Start.{opening, noState, startVerdict, start}
-use Rattle.arbiter.specs.Asked.{figuresVerdict, figures}
-use Rattle.arbiter.specs.Input.{inputVerdict}
-use Rattle.leads.specs.Lead.{leadOf, leadVerdict, leadAsked}
+use Rattle.terms.specs.Refusals.{gate, then}
+use Rattle.terms.specs.Table.{tableOf, heldTo, rowVerdict, eachPlace, tailVerdict, rateSumVerdict, tableVerdict}
+use Rattle.terms.specs.Figures.{roundedUp, finish, finishVerdict, admissionVerdict}
+use Rattle.terms.specs.State.{accountsHold, sound, placeVerdict}
+use Rattle.terms.specs.Start.{opening, noState, startVerdict, start}
+use Rattle.terms.specs.Asked.{figuresVerdict, figures}
+use Rattle.terms.specs.Input.{inputVerdict}
+use Rattle.lead_parts.specs.Lead.{leadOf, leadVerdict, leadAsked}
 use Rattle.table_bytes.specs.Reading.{next, fieldRead, rowRead, itemsRead, placesRead, numbersRead, lastVerdict, settled, readTable}
 use Rattle.table_bytes.specs.Writing.{tableNumbers, tableBytes, writeVerdict, writeTable}
 use Rattle.rule.specs.Rule.{eligible, later, firstEligible, served, passed, after}
-use Rattle.calls.specs.Calls.{grantOf, advanced, withCount, withPost, done, ruleVerdict, called}
-use Rattle.run.specs.Log.{slotsState, slotsLog, slotsVerdict, runVerdict, run}
+use Rattle.rule.specs.Calls.{grantOf, advanced, withCount, withPost, done, ruleVerdict, called}
+use Rattle.rule.specs.Log.{slotsState, slotsLog, slotsVerdict, runVerdict, run}
 use Rattle.layout.specs.Words.{roomOf, rightLength, stateWords, placesFrom, wordsState}
 use Rattle.layout.specs.Numbers.{numbersTable}
 use Rattle.starts.specs.Starts.{begun}
 use Rattle.asking.specs.Look.{accountAsked, standing}
 use Rattle.outcomes.specs.Outcomes.{refusalCode}
 use Rattle.justrave.specs.Exported.{onState, posted, slotted, ran, leaves, started, startedOf, figured, accountTold, standingTold, led, wrote}
-use Rattle.on_words.specs.Rows.{wordsIn, startRows, numberRows, postRows, slotRows, runRows, askedRows, writeRows, lookRows, roomRows, lengthRows, Pass, Sizes, All-pass}
+use Rattle.on_words.specs.Rows.{wordsIn, startRows, numberRows, postRows, slotRows, runRows, askedRows, writeRows, lookRows, roomRows, lengthRows, Pass, All-pass}
 
 start-pass : Pass startRows
 unfolding roomOf rightLength placesFrom wordsState stateWords joined paired refusalCode wordsIn total every gate then heldTo rowVerdict eachPlace tailVerdict rateSumVerdict tableVerdict roundedUp finish finishVerdict admissionVerdict tableOf writtenOver opening noState startVerdict start leaves lastGroup combined laterGroups numberOf next fieldRead rowRead itemsRead placesRead numbersRead lastVerdict settled readTable begun started startRows

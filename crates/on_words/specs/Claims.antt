@@ -10,17 +10,16 @@ use lib.Dec.{eqb}
 use lib.IntN.{ℤ}
 use lib.ListN.{length, replicate}
 use Rattle.lists.specs.Runs.{Result, end, answers}
-use Rattle.arbiter.specs.declared.state.Arbiter.{Arbiter}
-use Rattle.arbiter.specs.declared.table.Table.{Table}
-use Rattle.arbiter.specs.Answers.{Answer, accepted}
-use Rattle.arbiter.specs.State.{sound, Shaped}
-use Rattle.arbiter.specs.Start.{start}
-use Rattle.arbiter.specs.Asked as asked
-use Rattle.leads.specs.Lead as leads
+use Rattle.terms.specs.State.{State, sound, Shaped}
+use Rattle.terms.specs.Table.{Table}
+use Rattle.terms.specs.Answers.{Answer, accepted}
+use Rattle.terms.specs.Start.{start}
+use Rattle.terms.specs.Asked as asked
+use Rattle.lead_parts.specs.Lead as leads
 use Rattle.table_bytes.specs.Reading.{readTable}
 use Rattle.table_bytes.specs.Writing as writing
-use Rattle.calls.specs.Calls.{Call, post, slot, called}
-use Rattle.run.specs.Log.{run}
+use Rattle.rule.specs.Calls.{Call, post, slot, called}
+use Rattle.rule.specs.Log.{run}
 use Rattle.layout.specs.Words.{roomOf, rightLength, stateWords, stateOf}
 use Rattle.layout.specs.Numbers.{allNumbers, numbersTable, rightNumbers}
 use Rattle.starts.specs.Starts.{begun}
@@ -29,7 +28,7 @@ use Rattle.outcomes.specs.Outcomes.{answerCode, wrongLength}
 use Rattle.justrave.specs.Exported.{Stated, stated, posted, slotWords, slotStated, slotted, runStated, ran, started, startedOf, figuresTold, figured, lookTold, accountTold, stands, standingTold, leadTold, led, writeTold, wrote}
 
 -- a state with room for so many places, 1 to the largest N
-pub record Fits (most room : ℕ) (s : Arbiter) : Type 0 where
+pub record Fits (most room : ℕ) (s : State) : Type 0 where
   pub shaped : Shaped room s
   pub some : 1 ≤ room
   pub few : room ≤ most
@@ -38,7 +37,7 @@ pub record Fits (most room : ℕ) (s : Arbiter) : Type 0 where
 
 abbrev pub Post-by-value : Type 0
 Post-by-value =
-    (most room : ℕ) (s : Arbiter) (p count : ℕ) → Fits most room s
+    (most room : ℕ) (s : State) (p count : ℕ) → Fits most room s
     → posted most (stateWords s) p count ≡ stated (called room s (post p count))
 
 -- a start from a table's numbers is the start of the table, in words with room for as many rows
@@ -56,36 +55,36 @@ Starts-agree =
 -- `old` is the lent answer; one of a wrong length is 255
 abbrev pub Slot-by-value : Type 0
 Slot-by-value =
-    (most room : ℕ) (s : Arbiter) (old : List ℕ) → Fits most room s → length old ≡ 2
+    (most room : ℕ) (s : State) (old : List ℕ) → Fits most room s → length old ≡ 2
     → slotted most (stateWords s) old ≡ slotStated old (called room s slot)
 
 abbrev pub Run-by-value : Type 0
-Run-by-value = (most room : ℕ) (s : Arbiter) (log : List ℕ) → Fits most room s → ran most (stateWords s) log ≡ runStated (run room s log)
+Run-by-value = (most room : ℕ) (s : State) (log : List ℕ) → Fits most room s → ran most (stateWords s) log ≡ runStated (run room s log)
 
 abbrev pub Figures-by-value : Type 0
 Figures-by-value =
-    (most room : ℕ) (s : Arbiter) (p j : ℕ) (old : List ℕ) → Fits most room s → length old ≡ 2
+    (most room : ℕ) (s : State) (p j : ℕ) (old : List ℕ) → Fits most room s → length old ≡ 2
     → figured most (stateWords s) p j old ≡ figuresTold old (asked.figures room s p j)
 
 abbrev pub Account-by-value : Type 0
 Account-by-value =
-    (most room : ℕ) (s : Arbiter) (p : ℕ) (old : List ℕ) → Fits most room s → length old ≡ 2
+    (most room : ℕ) (s : State) (p : ℕ) (old : List ℕ) → Fits most room s → length old ≡ 2
     → accountTold most (stateWords s) p old ≡ lookTold old (look.accountAsked room s p)
 
 abbrev pub Standing-by-value : Type 0
 Standing-by-value =
-    (most room : ℕ) (s : Arbiter) (old : List ℕ) → Fits most room s → length old ≡ 2
+    (most room : ℕ) (s : State) (old : List ℕ) → Fits most room s → length old ≡ 2
     → standingTold most (stateWords s) old ≡ stands old (look.standing room s)
 
 abbrev pub Lead-by-value : Type 0
 Lead-by-value =
-    (most room : ℕ) (s : Arbiter) (p : ℕ) (log : List ℕ) (old : List ℤ) → Fits most room s → length old ≡ 1
+    (most room : ℕ) (s : State) (p : ℕ) (log : List ℕ) (old : List ℤ) → Fits most room s → length old ≡ 1
     → led most (stateWords s) p log old ≡ leadTold old (leads.leadAsked room s p log)
 
 -- the writer takes a table and no state, so that 23 is the boundary's own test here
 abbrev pub Write-by-value : Type 0
 Write-by-value =
-    (most room : ℕ) (s : Arbiter) (buffer old : List ℕ) → Fits most room s → length old ≡ 1 → sound room s ≡ true
+    (most room : ℕ) (s : State) (buffer old : List ℕ) → Fits most room s → length old ≡ 1 → sound room s ≡ true
     → wrote most (stateWords s) buffer old ≡ writeTold old (writing.writeTable room (s .table) buffer)
 
 -- ---- calls in a row
@@ -113,7 +112,7 @@ lastTold old (a ∷ rest) = lastTold (slotWords old a) rest
 -- the lent answer is what the last slot told. A run is so many slots (guarantees, RunSlots).
 abbrev pub In-a-row : Type 0
 In-a-row =
-    (most room : ℕ) (s : Arbiter) (old : List ℕ) (calls : List Call) → Fits most room s → length old ≡ 2
+    (most room : ℕ) (s : State) (old : List ℕ) (calls : List Call) → Fits most room s → length old ≡ 2
     → let lent : Lent = record { words = stateWords s; answer = old } in
     let heard = answers (called room) s calls in
     (end (lentCall most) lent calls ≡ record { words = stateWords (end (called room) s calls); answer = lastTold old heard })

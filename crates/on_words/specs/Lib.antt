@@ -1,4 +1,6 @@
--- What holds of the calls on lent words together, that their room makes no difference, and worked examples of each.
+-- What holds of the calls on lent words together, that a start with outcome 0 is one of demand 3, that room makes no difference, and worked
+-- examples of each.
 pub mod Claims
+pub mod Begins
 pub mod Room
 pub mod Rows

@@ -10,7 +10,7 @@ use Prim.Native.Nat.{ℕ, _+_, _*_, _≤_}
 use lib.IntN.{ℤ}
 use lib.ListN.{replicate}
 use Rattle.lists.specs.Runs.{end, answers}
-use Rattle.calls.specs.Calls.{Call}
+use Rattle.rule.specs.Calls.{Call}
 use Rattle.layout.specs.Words.{roomOf, rightLength}
 use Rattle.justrave.specs.Exported.{Stated, posted, Slotted, slotted, Ran, ran, started, startedOf, figured, accountTold, standingTold, led, wrote}
 use Rattle.on_words.specs.Claims.{Lent, lentCall}

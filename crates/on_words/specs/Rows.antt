@@ -6,7 +6,7 @@ use mathlib.Core.List.{List, [], _∷_, _++_, map}
 use Prim.Native.Nat.{ℕ, _+_, _-_, _*_}
 use lib.IntN.{ℤ, pos, negsuc}
 use lib.ListN.{replicate}
-use Rattle.arbiter.specs.Limits.{maxPlaces, maxSlot}
+use Rattle.terms.specs.Limits.{maxPlaces, maxSlot}
 use Rattle.layout.specs.Words.{wordCount}
 use Rattle.justrave.specs.Exported.{sizeOf, Stated, started, startedOf, posted, Slotted, slotted, Ran, ran, Figured, figured, accountTold, standingTold, Led, led, Wrote, wrote}
 
@@ -35,7 +35,7 @@ fresh = freshAt 0
 abbrev pub threeEach : List ℕ
 threeEach = wordsT 0 8 3 4 3
 
--- T with a rate of two to the power 32, which its field does not hold
+-- T with a rate of two to the power 32, which is above D
 abbrev pub wide : List ℕ
 wide = wordsIn maxPlaces 4294967296 0 8 0 4 0
 
@@ -175,7 +175,7 @@ postRows =
     -- words that fit and break a rule are 23: a credit above its burst, a backlog past its limit
     ∷ posting (wordsT 0 9 0 3 0) 0 0 (wordsT 0 9 0 3 0) 23
     ∷ posting (wordsT 0 8 0 4 65536) 0 0 (wordsT 0 8 0 4 65536) 23
-    -- a word that its field cannot hold is 23, here and in every call; 255 is ahead of 23
+    -- a rate far above D is 23, here and in every call; 255 is ahead of 23
     ∷ posting wide 0 0 wide 23
     ∷ posting (wide ++ 0 ∷ []) 0 0 (wide ++ 0 ∷ []) 255
     ∷ []

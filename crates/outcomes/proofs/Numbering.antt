@@ -2,9 +2,9 @@
 use mathlib.Core.Path.{_≡_}
 use Prim.Native.Nat.{ℕ, _+_, _*_, _≤_, _<_}
 use native.Mathlib.Omega.{arith}
-use Rattle.arbiter.specs.declared.refusals.Named.{Named}
-use Rattle.arbiter.specs.declared.refusals.Named.the-variants as named
-use Rattle.arbiter.specs.declared.refusals.Refusal.{Refusal}
+use Rattle.terms.specs.declared.refusals.Named.{Named}
+use Rattle.terms.specs.declared.refusals.Named.the-variants as named
+use Rattle.terms.specs.declared.refusals.Refusal.{Refusal}
 use Rattle.outcomes.specs.Outcomes.{refusalCode}
 use Rattle.outcomes.specs.Places.{Below}
 

@@ -15,32 +15,30 @@ use Rattle.lists.proofs.Tests.{cases, in-range-true}
 use Rattle.groups.specs.declared.reading.Reading as number
 use Rattle.groups.specs.declared.reading.Reading.the-variants.{Number, Ended, Malformed}
 use Rattle.groups.specs.Groups.{numberOf}
-use Rattle.arbiter.specs.declared.refusals.Named.{Named}
-use Rattle.arbiter.specs.declared.refusals.Named.the-variants as named
-use Rattle.arbiter.specs.declared.refusals.Refusal.{Refusal}
-use Rattle.arbiter.specs.declared.state.Arbiter.{Arbiter}
-use Rattle.arbiter.specs.declared.table.Requestor.{Requestor}
-use Rattle.arbiter.specs.declared.table.Table.{Table}
-use Rattle.arbiter.specs.Limits.{maxBacklog, maxSlot, maxInput}
-use Rattle.arbiter.specs.Refusals.{originOf, Verdict, faultless, fault, refusal, refusalAt, gate, then, resolve}
-use Rattle.arbiter.specs.Answers.{Answer, accepted, granted, idle, refused, unless}
-use Rattle.arbiter.specs.Table.{rate, requestorClear, requestorsOf, tableOf, Bounds, denominatorBounds, countBounds, rateBounds, burstBounds, needBounds, withinBounds, heldTo, rowVerdict, eachPlace, tailVerdict, rateSumVerdict, tableVerdict}
-use Rattle.arbiter.specs.Figures.{finish, finishVerdict, finishesVerdict, admissionVerdict}
-use Rattle.arbiter.specs.State.{backlog, accountAt, sound, placeVerdict}
-use Rattle.arbiter.specs.Input.{inputVerdict}
-use Rattle.arbiter.specs.Start.{opening, noState, startVerdict, start}
-use Rattle.arbiter.specs.Asked as asked
-use Rattle.arbiter.proofs.Checks.{held-open, fair}
-use Rattle.arbiter.proofs.Sound.{place-open, sound-table}
+use Rattle.terms.specs.declared.refusals.Named.{Named}
+use Rattle.terms.specs.declared.refusals.Named.the-variants as named
+use Rattle.terms.specs.declared.refusals.Refusal.{Refusal}
+use Rattle.terms.specs.State.{State, backlog, accountAt, sound, placeVerdict}
+use Rattle.terms.specs.declared.place.Requestor.{Requestor}
+use Rattle.terms.specs.Table.{Table, rate, requestorClear, requestorsOf, tableOf, Bounds, denominatorBounds, countBounds, rateBounds, burstBounds, needBounds, withinBounds, heldTo, rowVerdict, eachPlace, tailVerdict, rateSumVerdict, tableVerdict}
+use Rattle.terms.specs.Limits.{maxBacklog, maxSlot, maxInput}
+use Rattle.terms.specs.Refusals.{originOf, Verdict, faultless, fault, refusal, refusalAt, gate, then, resolve}
+use Rattle.terms.specs.Answers.{Answer, accepted, granted, idle, refused, unless}
+use Rattle.terms.specs.Figures.{finish, finishVerdict, finishesVerdict, admissionVerdict}
+use Rattle.terms.specs.Input.{inputVerdict}
+use Rattle.terms.specs.Start.{opening, noState, startVerdict, start, turnedDown}
+use Rattle.terms.specs.Asked as asked
+use Rattle.terms.proofs.Checks.{held-open, fair}
+use Rattle.terms.proofs.Sound.{place-open, sound-table}
 use Rattle.table_bytes.specs.Reading.{Read, read, stop, next, readAs, numberRead, fieldRead, rowRead, itemsRead, rowsRead, placesRead, numbersRead, lastVerdict, TableRead, accept, refuse, settled, readTable}
 use Rattle.table_bytes.specs.Writing as writing
-use Rattle.leads.specs.Lead as leads
+use Rattle.lead_parts.specs.Lead as leads
 use Rattle.rule.specs.declared.rule.Grant.{Grant}
 use Rattle.rule.specs.declared.rule.Grant.the-variants.{Nobody, Place}
-use Rattle.calls.specs.Calls.{Call, post, slot, grantOf, slotAnswer, done, ruleVerdict, outcome, called}
-use Rattle.run.specs.Log.{Outcome, slotsState, slotsLog, slotsVerdict, runVerdict, run}
+use Rattle.rule.specs.Calls.{Call, post, slot, grantOf, slotAnswer, done, ruleVerdict, outcome, called}
+use Rattle.rule.specs.Log.{Outcome, slotsState, slotsLog, slotsVerdict, runVerdict, run}
 use Rattle.table_bytes.proofs.Accepted.{stop-read, next-open, read-same, field-open}
-use Rattle.starts.specs.Starts.{turnedDown, begun}
+use Rattle.starts.specs.Starts.{begun}
 use Rattle.asking.specs.Look as look
 use Rattle.outcomes.specs.Outcomes.{placeCode, refusalCode}
 use Rattle.outcomes.specs.Places.{known, placed, Told, Code-tells, Code-apart, Start-names-below, Table-start-names-below, Calls-name-below, Runs-name-below, Leads-name-below, Figures-name-below, Write-names-below, Looks-name-below, Standings-name-below}
@@ -252,7 +250,7 @@ table-start-names-below limit t first r e =
     by (startVerdict limit t first)
     (small-then limit (admissionVerdict limit t) _ (small-admission limit t) (λ ok. small-gate limit (refusal 12) (leb first maxSlot) faultless (plain limit 12 refl refl) (small-none limit))) e
   where
-    by : (v : Verdict) → Small limit v → resolve {X = Result Arbiter Answer} v (record { state = opening t first; answer = accepted }) (λ q. record { state = noState limit; answer = refused q }) .answer ≡ refused r → Told limit r
+    by : (v : Verdict) → Small limit v → resolve {X = Result State Answer} v (record { state = opening t first; answer = accepted }) (λ q. record { state = noState limit; answer = refused q }) .answer ≡ refused r → Told limit r
     by faultless h f = let z : _≡_ {A = ℕ} 0 1 = cc in absurd (omega arith)
     by (fault q) h f = let same : q ≡ r = cc in rw same at (h q refl)
 
@@ -266,14 +264,14 @@ start-names-below limit bytes first r e = by (readTable limit bytes .answer) ref
     by (idle stamp) h f = table-start-names-below limit (readTable limit bytes .table) first r f
     by (refused q) h f = let same : q ≡ r = cc in small-answer limit bytes r (h ∙ ap refused same)
 
-small-rule : (limit : ℕ) (s : Arbiter) (c : Call) → Small limit (ruleVerdict s c)
+small-rule : (limit : ℕ) (s : State) (c : Call) → Small limit (ruleVerdict s c)
 unfolding ruleVerdict
 small-rule limit s (post p count) =
     small-gate limit (refusal 11) (ltb p (s .table .count)) _ (plain limit 11 refl refl)
     (small-gate limit (refusal 21) (leb (backlog (accountAt p (s .accounts)) + count) maxBacklog) faultless (plain limit 21 refl refl) (small-none limit))
 small-rule limit s slot = small-gate limit (refusal 22) (ltb (s .slot .0) maxSlot) faultless (plain limit 22 refl refl) (small-none limit)
 
-outcome-fault : (v : Verdict) (s : Arbiter) (c : Call) (r : Refusal) → outcome v s c .answer ≡ refused r → v ≡ fault r
+outcome-fault : (v : Verdict) (s : State) (c : Call) (r : Refusal) → outcome v s c .answer ≡ refused r → v ≡ fault r
 unfolding done
 outcome-fault faultless s (post p count) r e = let z : _≡_ {A = ℕ} 0 1 = cc in absurd (omega arith)
 outcome-fault faultless s slot r e = never (grantOf s) e
@@ -304,7 +302,7 @@ runs-name-below limit s log r e =
     by faultless h f = let z : _≡_ {A = ℕ} 0 1 = cc in absurd (omega arith)
     by (fault q) h f = let same : q ≡ r = cc in rw same at (h q refl)
 
-small-asked : (limit : ℕ) (s : Arbiter) (p : ℕ) → Small limit (placeVerdict limit s p)
+small-asked : (limit : ℕ) (s : State) (p : ℕ) → Small limit (placeVerdict limit s p)
 unfolding placeVerdict
 small-asked limit s p = small-gate limit (refusal 23) (sound limit s) _ (plain limit 23 refl refl) (small-gate limit (refusal 11) (ltb p (s .table .count)) faultless (plain limit 11 refl refl) (small-none limit))
 

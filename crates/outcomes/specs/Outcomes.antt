@@ -1,10 +1,10 @@
 -- An outcome: 0 is accepted, and a refusal is its number in the low 8 bits, and above them place + 1 where it names a place. The exported
 -- calls add only 255, for lent memory of a wrong length, ahead of all else.
 use Prim.Native.Nat.{ℕ, _+_, _*_}
-use Rattle.arbiter.specs.declared.refusals.Named.{Named}
-use Rattle.arbiter.specs.declared.refusals.Named.the-variants as named
-use Rattle.arbiter.specs.declared.refusals.Refusal.{Refusal}
-use Rattle.arbiter.specs.Answers.{Answer, accepted, granted, idle, refused}
+use Rattle.terms.specs.declared.refusals.Named.{Named}
+use Rattle.terms.specs.declared.refusals.Named.the-variants as named
+use Rattle.terms.specs.declared.refusals.Refusal.{Refusal}
+use Rattle.terms.specs.Answers.{Answer, accepted, granted, idle, refused}
 
 -- a place that a refusal names, as place + 1
 abbrev pub placeCode : Named → ℕ

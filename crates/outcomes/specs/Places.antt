@@ -6,20 +6,20 @@ use lib.Dec.{eqb}
 use mathlib.Core.List.{List}
 use Prim.Native.Nat.{ℕ, _<_}
 use Rattle.lists.specs.Choices.{pick, inRange}
-use Rattle.arbiter.specs.declared.refusals.Named.{Named}
-use Rattle.arbiter.specs.declared.refusals.Named.the-variants as named
-use Rattle.arbiter.specs.declared.refusals.Refusal.{Refusal}
-use Rattle.arbiter.specs.declared.state.Arbiter.{Arbiter}
-use Rattle.arbiter.specs.declared.table.Table.{Table}
-use Rattle.arbiter.specs.Refusals.{originOf}
-use Rattle.arbiter.specs.Answers.{refused}
-use Rattle.arbiter.specs.Start.{start}
-use Rattle.arbiter.specs.Asked as asked
-use Rattle.leads.specs.Lead as leads
+use Rattle.terms.specs.declared.refusals.Named.{Named}
+use Rattle.terms.specs.declared.refusals.Named.the-variants as named
+use Rattle.terms.specs.declared.refusals.Refusal.{Refusal}
+use Rattle.terms.specs.State.{State}
+use Rattle.terms.specs.Table.{Table}
+use Rattle.terms.specs.Refusals.{originOf}
+use Rattle.terms.specs.Answers.{refused}
+use Rattle.terms.specs.Start.{start}
+use Rattle.terms.specs.Asked as asked
+use Rattle.lead_parts.specs.Lead as leads
 use Rattle.table_bytes.specs.Reading.{readTable}
 use Rattle.table_bytes.specs.Writing as writing
-use Rattle.calls.specs.Calls.{Call, called}
-use Rattle.run.specs.Log.{run}
+use Rattle.rule.specs.Calls.{Call, called}
+use Rattle.rule.specs.Log.{run}
 use Rattle.starts.specs.Starts.{begun}
 use Rattle.asking.specs.Look as look
 use Rattle.outcomes.specs.Outcomes.{refusalCode, wrongLength}
@@ -63,24 +63,24 @@ Table-start-names-below = (limit : ℕ) (t : Table) (first : ℕ) (r : Refusal) 
 
 -- a post or a slot
 abbrev pub Calls-name-below : Type 0
-Calls-name-below = (limit : ℕ) (s : Arbiter) (c : Call) (r : Refusal) → called limit s c .answer ≡ refused r → Told limit r
+Calls-name-below = (limit : ℕ) (s : State) (c : Call) (r : Refusal) → called limit s c .answer ≡ refused r → Told limit r
 
 abbrev pub Runs-name-below : Type 0
-Runs-name-below = (limit : ℕ) (s : Arbiter) (log : List ℕ) (r : Refusal) → run limit s log .answer ≡ refused r → Told limit r
+Runs-name-below = (limit : ℕ) (s : State) (log : List ℕ) (r : Refusal) → run limit s log .answer ≡ refused r → Told limit r
 
 abbrev pub Leads-name-below : Type 0
 Leads-name-below =
-    (limit : ℕ) (s : Arbiter) (p : ℕ) (log : List ℕ) (r : Refusal) → leads.leadAsked limit s p log ≡ leads.refused r → Told limit r
+    (limit : ℕ) (s : State) (p : ℕ) (log : List ℕ) (r : Refusal) → leads.leadAsked limit s p log ≡ leads.refused r → Told limit r
 
 abbrev pub Figures-name-below : Type 0
-Figures-name-below = (limit : ℕ) (s : Arbiter) (p j : ℕ) (r : Refusal) → asked.figures limit s p j ≡ asked.refused r → Told limit r
+Figures-name-below = (limit : ℕ) (s : State) (p j : ℕ) (r : Refusal) → asked.figures limit s p j ≡ asked.refused r → Told limit r
 
 abbrev pub Write-names-below : Type 0
 Write-names-below =
     (limit : ℕ) (t : Table) (buffer : List ℕ) (r : Refusal) → writing.writeTable limit t buffer .answer ≡ writing.refused r → Told limit r
 
 abbrev pub Looks-name-below : Type 0
-Looks-name-below = (limit : ℕ) (s : Arbiter) (p : ℕ) (r : Refusal) → look.accountAsked limit s p ≡ look.refused r → Told limit r
+Looks-name-below = (limit : ℕ) (s : State) (p : ℕ) (r : Refusal) → look.accountAsked limit s p ≡ look.refused r → Told limit r
 
 abbrev pub Standings-name-below : Type 0
-Standings-name-below = (limit : ℕ) (s : Arbiter) (r : Refusal) → look.standing limit s ≡ look.refused r → Told limit r
+Standings-name-below = (limit : ℕ) (s : State) (r : Refusal) → look.standing limit s ≡ look.refused r → Told limit r

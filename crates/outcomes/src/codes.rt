@@ -1,9 +1,9 @@
 // A refusal as one number, and the number of a wrong length.
-use arbiter::refusals::Cause;
-use arbiter::refusals::Named;
+use terms::refusals::Cause;
+use terms::refusals::Named;
 ghost use mathlib.Core.Path.{_≡_};
-ghost use Rattle.arbiter.specs.Limits.{maxPlaces};
-ghost use Rattle.arbiter.specs.Refusals.{refusalOf};
+ghost use Rattle.terms.specs.Limits.{maxPlaces};
+ghost use Rattle.terms.specs.Refusals.{refusalOf};
 ghost use Rattle.outcomes.specs.Outcomes.{refusalCode};
 ghost use Rattle.outcomes.specs.Places.{Below};
 

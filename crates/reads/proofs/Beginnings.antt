@@ -1,5 +1,5 @@
 -- The beginning of the input, check by check. Assumes nothing.
-use mathlib.Core.Path.{_≡_, _∙_}
+use mathlib.Core.Path.{_≡_, refl, _∙_}
 use mathlib.Core.List.{List}
 use Prim.Native.Nat.{ℕ, _+_, _-_, _≤_, _<_}
 use native.Mathlib.Omega.{arith}
@@ -8,30 +8,27 @@ use borrow.Rule.Slice.PartAt.{part-to-end}
 use lib.ListN.{length, take, drop, length-drop}
 use lib.Seq.{drop-drop}
 use Rattle.lists.specs.Runs.{Result}
-use Rattle.arbiter.specs.declared.refusals.Refusal.{Refusal}
-use Rattle.arbiter.specs.declared.state.Arbiter.{Arbiter}
-use Rattle.arbiter.specs.Refusals.{faultless, fault, refusal}
-use Rattle.arbiter.specs.Answers.{Answer, accepted, refused}
-use Rattle.arbiter.specs.Start.{start}
-use Rattle.arbiter.specs.Input.{inputVerdict}
+use Rattle.terms.specs.declared.refusals.Refusal.{Refusal}
+use Rattle.terms.specs.State.{State}
+use Rattle.terms.specs.Refusals.{faultless, fault, refusal}
+use Rattle.terms.specs.Answers.{Answer, accepted, granted, idle, refused, unless}
+use Rattle.terms.specs.Input.{inputVerdict}
 use Rattle.table_bytes.specs.Reading.{Read, read, stop, next, numberRead, TableRead, readTable}
+use Rattle.starts.specs.Starts as starts
 use Rattle.reads.specs.Reads.{startRead, stateRead, begun}
 
 -- ---- the start
 
-module _ (limit : ℕ) (r : TableRead) (rest : List ℕ) where
-  pub table-refused : (why : Refusal) → r .answer ≡ refused why → stop why ≡ startRead limit r rest
-  unfolding startRead
-  table-refused why e = rw e
-
-  module _ (e : r .answer ≡ accepted) (started : Result Arbiter Answer) (s : started ≡ start limit (r .table) 0) where
-    pub start-refused : (why : Refusal) → started .answer ≡ refused why → stop why ≡ startRead limit r rest
-    unfolding startRead
-    start-refused why a = rw (e, ← s, a)
-
-    pub start-accepted : started .answer ≡ accepted → read (started .state) rest ≡ startRead limit r rest
-    unfolding startRead
-    start-accepted a = rw (e, ← s, a)
+-- what a start from the table's bytes comes to
+pub start-told : (limit : ℕ) (t : TableRead) (rest : List ℕ) (begins : Result State Answer) → begins ≡ starts.begun limit t 0
+    → unless (begins .answer) stop (read (begins .state) rest) ≡ startRead limit t rest
+unfolding starts.begun startRead
+start-told limit t rest begins e = by (t .answer) refl where
+  by : (a : Answer) → t .answer ≡ a → unless (begins .answer) stop (read (begins .state) rest) ≡ startRead limit t rest
+  by accepted f = rw (e, f)
+  by (granted stamp p) f = rw (e, f)
+  by (idle stamp) f = rw (e, f)
+  by (refused why) f = rw (e, f)
 
 -- ---- the table's length
 
@@ -50,15 +47,14 @@ module _ (limit : ℕ) (input : List ℕ) where
     size-passes h = rw (← e, lt-leb size (length (drop taken input)) (rw (part-to-end input taken) at h))
 
     -- the table's bytes are there, and what comes after them
-    pub table-begins : taken ≤ length input → size ≤ length (take (length input - taken) (drop taken input)) → (begins : Read Arbiter) (table : TableRead)
-        → begins ≡ startRead limit table (drop (taken + size) input)
-        → table ≡ readTable limit (take size (take (length input - taken) (drop taken input)))
+    pub table-begins : taken ≤ length input → size ≤ length (take (length input - taken) (drop taken input)) → (begins : Read State)
+        → begins ≡ startRead limit (readTable limit (take size (take (length input - taken) (drop taken input)))) (drop (taken + size) input)
         → begins ≡ stateRead limit input
     unfolding stateRead next
-    table-begins inside h begins table b t =
+    table-begins inside h begins b =
         let rest = part-to-end input taken in
         rw (← e, le-leb size (length (drop taken input)) (rw rest at h))
-        (b ∙ rw (t, rest, ← drop-drop size taken input))
+        (b ∙ rw (rest, ← drop-drop size taken input))
 
 -- ---- the input's length
 
@@ -67,6 +63,6 @@ module _ (limit : ℕ) (input : List ℕ) where
   unfolding begun
   input-refused why e = rw e
 
-  pub input-accepted : inputVerdict (length input) ≡ faultless → (begins : Read Arbiter) → begins ≡ stateRead limit input → begins ≡ begun limit input
+  pub input-accepted : inputVerdict (length input) ≡ faultless → (begins : Read State) → begins ≡ stateRead limit input → begins ≡ begun limit input
   unfolding begun
   input-accepted e begins b = rw e b

@@ -8,7 +8,7 @@ use lib.ListN.{length, take, drop, set, length-drop}
 use lib.Seq.{take-at, drop-drop}
 use Rattle.lists.specs.Overwriting.{writtenOver}
 use Rattle.lists.proofs.Overwriting.{stored-behind, length-over}
-use Rattle.arbiter.specs.declared.refusals.Refusal.{Refusal}
+use Rattle.terms.specs.declared.refusals.Refusal.{Refusal}
 use Rattle.table_bytes.specs.Reading.{Read, read, stop, numberRead}
 use Rattle.table_bytes.proofs.Readings.{Done, done-none, done-next, done-stop, done-end}
 use Rattle.reads.specs.Reads.{countsRead}

@@ -2,8 +2,9 @@
 use mathlib.Core.List.{List}
 use Prim.Native.Nat.{ℕ}
 use lib.ListN.{take, drop}
-use Rattle.arbiter.specs.declared.state.Arbiter.{Arbiter}
-use Rattle.arbiter.specs.Refusals.{refusalOf}
+use Rattle.terms.specs.State.{State}
+use Rattle.terms.specs.Refusals.{refusalOf}
+use Rattle.arbiter.specs.ByValue.{held}
 use Rattle.table_bytes.specs.Reading.{Read, read, stop}
 use Rattle.reads.specs.declared.counts.Counted.{Counted}
 use Rattle.reads.specs.declared.counts.Counted.the-variants as counted
@@ -26,12 +27,12 @@ takenByCounts (counted.Taken taken) = taken
 takenByCounts (counted.Refused c) = 0
 
 -- the state, and the rest of the input
-abbrev pub begunAs : List ℕ → Arbiter → Beginning → Read Arbiter
+abbrev pub begunAs : List ℕ → State → Beginning → Read State
 begunAs input s (beginning.Taken taken) = read s (drop taken input)
 begunAs input s (beginning.Refused c) = stop (refusalOf c)
 
-abbrev pub begunOf : List ℕ → BeginResult → Read Arbiter
-begunOf input r = begunAs input (r .state) (r .beginning)
+abbrev pub begunOf : List ℕ → BeginResult → Read State
+begunOf input r = begunAs input (held (r .state)) (r .beginning)
 
 abbrev pub takenByBeginning : Beginning → ℕ
 takenByBeginning (beginning.Taken taken) = taken

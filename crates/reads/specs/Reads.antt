@@ -6,30 +6,30 @@ use Prim.Native.Nat.{ℕ}
 use lib.Dec.{leb}
 use lib.ListN.{length, take, drop}
 use Rattle.lists.specs.Choices.{pick}
-use Rattle.arbiter.specs.declared.state.Arbiter.{Arbiter}
-use Rattle.arbiter.specs.Refusals.{refusal, resolve}
-use Rattle.arbiter.specs.Answers.{unless}
-use Rattle.arbiter.specs.Start.{start}
-use Rattle.arbiter.specs.Input.{inputVerdict}
+use Rattle.terms.specs.State.{State}
+use Rattle.terms.specs.Refusals.{refusal, resolve}
+use Rattle.terms.specs.Answers.{unless}
+use Rattle.terms.specs.Start.{start}
+use Rattle.terms.specs.Input.{inputVerdict}
 use Rattle.table_bytes.specs.Reading.{Read, read, stop, next, numberRead, itemsRead, TableRead, readTable}
 
 -- ---- the beginning
 
 -- the table starts at slot 0, or is refused
-unfoldable pub startRead : ℕ → TableRead → (rest : List ℕ) → Read Arbiter
+unfoldable pub startRead : ℕ → TableRead → (rest : List ℕ) → Read State
 startRead limit r rest =
     unless (r .answer) stop
     (let started = start limit (r .table) 0 in
     unless (started .answer) stop (read (started .state) rest))
 
 -- the table's length, which may not pass the input (8), and so many bytes of table
-unfoldable pub stateRead : ℕ → (input : List ℕ) → Read Arbiter
+unfoldable pub stateRead : ℕ → (input : List ℕ) → Read State
 stateRead limit input =
     next (numberRead input) λ size rest.
     pick (leb size (length rest)) (startRead limit (readTable limit (take size rest)) (drop size rest)) (stop (refusal 8))
 
 -- "13 is tested first."
-unfoldable pub begun : ℕ → (input : List ℕ) → Read Arbiter
+unfoldable pub begun : ℕ → (input : List ℕ) → Read State
 begun limit input = resolve (inputVerdict (length input)) (stateRead limit input) stop
 
 -- ---- a slot

@@ -1,23 +1,20 @@
 // The beginning of the input: its length, the table's length, the table, and a start at slot 0.
 use arbiter::input::check_input;
-use arbiter::refusals::Cause;
-use arbiter::refusals::InputRefusal;
-use arbiter::refusals::Verdict;
-use arbiter::start::StartAnswer;
-use arbiter::start::no_state;
 use arbiter::state::Arbiter;
-use arbiter::units::Slots;
+use starts::bytes::start_bytes;
 use table_bytes::fields::Field;
 use table_bytes::fields::read_value;
-use table_bytes::reader::ReadAnswer;
-use table_bytes::reader::ReadResult;
-use table_bytes::reader::read_table;
+use terms::answers::StartAnswer;
+use terms::refusals::Cause;
+use terms::refusals::InputRefusal;
+use terms::refusals::Verdict;
+use terms::units::Slots;
 ghost use mathlib.Core.Path.{_≡_};
 ghost use mathlib.Core.List.{List};
 ghost use Prim.Native.Nat.{ℕ, _≤_};
 ghost use lib.ListN.{length, drop};
-ghost use Rattle.arbiter.specs.Limits.{maxPlaces};
-ghost use Rattle.table_bytes.specs.Reading.{readResultOf};
+ghost use Rattle.terms.specs.Limits.{maxPlaces};
+ghost use Rattle.table_bytes.specs.Reading.{readTable};
 ghost use Rattle.reads.specs.Reads.{startRead, stateRead, begun};
 ghost use Rattle.reads.specs.Parts.{begunOf, takenByBeginning};
 
@@ -36,32 +33,24 @@ fn refuse(why: Cause) -> BeginResult
     ensures { λ r. ⌜ r .beginning ≡ Beginning.Refused why ⌝ }
 {
     BeginResult {
-        state: no_state(),
+        state: Arbiter::none(),
         beginning: Beginning::Refused(why),
     }
 }
 
-// A table that was read from the first bytes starts at slot 0.
-fn begin_at_0(read: ReadResult, taken: usize) -> BeginResult
-    ensures { λ r. ⌜ ((input : List ℕ) → begunOf input r ≡ startRead maxPlaces (readResultOf read) (drop taken input)) ⌝ }
+// The table of these bytes starts at slot 0. So many bytes of the input are taken then.
+fn begin_at_0(table: &[u8], taken: usize) -> BeginResult
+    ensures { λ r. ⌜ ((input : List ℕ) → begunOf input r ≡ startRead maxPlaces (readTable maxPlaces (now (table .entry))) (drop taken input)) ⌝ }
     ensures there { λ r. ⌜ takenByBeginning (r .beginning) ≤ taken ⌝ }
 {
-    let answer = read.answer;
+    let mut words = [0u64; Arbiter::WORDS];
+    let answer = start_bytes(table, Slots(0), &mut words);
     match answer {
-        ReadAnswer::Refused(c) => refuse(c),
-        ReadAnswer::Accepted => {
-            let t = read.table;
-            let begun = Arbiter::start(t, Slots(0));
-            let state = begun.state;
-            let started = begun.answer;
-            match started {
-                StartAnswer::Refused(c) => refuse(c),
-                StartAnswer::Started => BeginResult {
-                    state: state,
-                    beginning: Beginning::Taken(taken),
-                },
-            }
-        }
+        StartAnswer::Refused(c) => refuse(c),
+        StartAnswer::Started => BeginResult {
+            state: Arbiter { words: words },
+            beginning: Beginning::Taken(taken),
+        },
     }
 }
 
@@ -80,8 +69,7 @@ fn begin_table(input: &[u8]) -> BeginResult
             if rest.len() < size {
                 return refuse(Cause::Input(InputRefusal::BytesEnd));
             }
-            let read = read_table(&rest[..size]);
-            begin_at_0(read, from + size)
+            begin_at_0(&rest[..size], from + size)
         }
     }
 }

@@ -1,12 +1,12 @@
 // The counts of a slot, read from the input.
-use arbiter::refusals::Cause;
 use arbiter::state::Arbiter;
 use table_bytes::fields::Field;
 use table_bytes::fields::read_value;
+use terms::refusals::Cause;
 ghost use mathlib.Core.Path.{_≡_};
 ghost use Prim.Native.Nat.{_≤_};
 ghost use lib.ListN.{length};
-ghost use Rattle.arbiter.specs.Limits.{maxPlaces};
+ghost use Rattle.terms.specs.Limits.{maxPlaces};
 ghost use Rattle.reads.specs.Reads.{countsRead};
 ghost use Rattle.reads.specs.Parts.{countsOf, takenByCounts};
 

@@ -1,2 +1,2 @@
 -- The laws that replay goes by.
-mod Replays
+pub mod Replays

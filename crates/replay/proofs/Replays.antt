@@ -16,14 +16,16 @@ use Rattle.lists.specs.Runs.{Result, end, answers}
 use Rattle.lists.proofs.Sums.{joined-more}
 use Rattle.lists.proofs.Runs.{end-more, answers-more, length-answers}
 use Rattle.lists.proofs.Overwriting.{stored-behind}
-use Rattle.arbiter.specs.declared.refusals.Cause.{Cause}
-use Rattle.arbiter.specs.declared.table.Table.{Table}
-use Rattle.arbiter.specs.declared.state.Arbiter.{Arbiter}
-use Rattle.arbiter.specs.declared.start.StartAnswer.the-variants as start-answer
+use Rattle.terms.specs.declared.refusals.Cause.{Cause}
+use Rattle.terms.specs.Table.{Table}
+use Rattle.terms.specs.State.{State}
+use Rattle.terms.specs.declared.answers.StartAnswer.the-variants as start-answer
 use Rattle.arbiter.specs.declared.start.StartResult.{StartResult}
-use Rattle.arbiter.specs.Answers.{Answer, accepted, granted, idle, refused}
-use Rattle.arbiter.specs.Start.{startResultOf, start}
-use Rattle.calls.specs.Calls.{post, slot, called}
+use Rattle.terms.specs.Answers.{Answer, accepted, granted, idle, refused}
+use Rattle.terms.specs.Start.{start}
+use Rattle.arbiter.specs.declared.state.Arbiter.{Arbiter}
+use Rattle.arbiter.specs.ByValue.{held, startResultOf}
+use Rattle.rule.specs.Calls.{post, slot, called}
 use Rattle.replay.specs.declared.Words.{Words}
 use Rattle.replay.specs.declared.Made.{Made}
 use Rattle.replay.specs.Replay.{callOf, callsOf, madeCalls, answerWords, wordsOf, afterCalls, callsFrom, continued, replay, replayedOf, listed, Makes}
@@ -31,11 +33,11 @@ use Rattle.replay.specs.Replay.{callOf, callsOf, madeCalls, answerWords,
 -- ---- one call
 
 -- a call whose answer is told by these three numbers
-pub makes : (next : Arbiter) (w : Words) (a : Answer) (r : Result Arbiter Answer) → _≡_ {A = Result Arbiter Answer} (record { state = next; answer = a }) r
+pub makes : (next : Arbiter) (w : Words) (a : Answer) (r : Result State Answer) → _≡_ {A = Result State Answer} (record { state = held next; answer = a }) r
     → listed w ≡ answerWords a → Makes (record { state = next; words = w }) r
 makes next w a r e f = record {
-  state = ap (λ (x : Result Arbiter Answer). x .state) e;
-  words = f ∙ ap (λ (x : Result Arbiter Answer). answerWords (x .answer)) e;
+  state = ap (λ (x : Result State Answer). x .state) e;
+  words = f ∙ ap (λ (x : Result State Answer). answerWords (x .answer)) e;
 }
 
 -- a number other than 0 is a post
@@ -94,7 +96,7 @@ length-answer (granted stamp p) = refl
 length-answer (idle stamp) = refl
 length-answer (refused r) = refl
 
-length-words : (heard : List Answer) → length (wordsOf heard) ≡ 3 * length heard
+pub length-words : (heard : List Answer) → length (wordsOf heard) ≡ 3 * length heard
 unfolding joined
 length-words [] = refl
 length-words (a ∷ heard) = omega (arith, length-append (answerWords a) (wordsOf heard), length-answer a, length-words heard)
@@ -112,7 +114,7 @@ written-more words old k x y z e h =
 
 -- Where the loop stands when i calls of n are made from the state s: the state after them, and their answers in the lent list,
 -- which is as long as it was.
-pub record Standing (limit : ℕ) (calls old : List ℕ) (s : Arbiter) (n : ℕ) (words : List ℕ) (state : Arbiter) (i : ℕ) : Type 0 where
+pub record Standing (limit : ℕ) (calls old : List ℕ) (s : State) (n : ℕ) (words : List ℕ) (state : State) (i : ℕ) : Type 0 where
   pub within : i ≤ n
   pub calls-fit : 3 * n ≤ length calls
   pub answers-fit : 3 * n ≤ length old
@@ -120,7 +122,7 @@ pub record Standing (limit : ℕ) (calls old : List ℕ) (s : Arbiter) (n : ℕ)
   pub after : state ≡ end (called limit) s (take i (callsOf calls))
   pub written : words ≡ writtenOver (wordsOf (answers (called limit) s (take i (callsOf calls)))) old
 
-module _ (limit : ℕ) (calls old : List ℕ) (s : Arbiter) (n : ℕ) where
+module _ (limit : ℕ) (calls old : List ℕ) (s : State) (n : ℕ) where
   -- no call is made yet
   pub standing-first : n ≡ min (length calls / 3) (length old / 3) → Standing limit calls old s n old s 0
   unfolding end answers joined writtenOver
@@ -141,9 +143,9 @@ module _ (limit : ℕ) (calls old : List ℕ) (s : Arbiter) (n : ℕ) where
       omega (arith, length-words heard, length-answers (called limit) s (take i (callsOf calls)), length-take-le i (callsOf calls) inside)
 
   -- one call more, on the state that the one before handed back
-  pub standing-more : (words : List ℕ) (state : Arbiter) (i : ℕ) (m : Made) → Standing limit calls old s n words state i → i < n
+  pub standing-more : (words : List ℕ) (state : State) (i : ℕ) (m : Made) → Standing limit calls old s n words state i → i < n
       → Makes m (called limit state (callOf (getD calls (3 * i) 0) (getD calls (3 * i + 1) 0) (getD calls (3 * i + 2) 0)))
-      → Standing limit calls old s n (set (set (set words (3 * i) (m .words .0)) (3 * i + 1) (m .words .1)) (3 * i + 2) (m .words .2)) (m .state) (i + 1)
+      → Standing limit calls old s n (set (set (set words (3 * i) (m .words .0)) (3 * i + 1) (m .words .1)) (3 * i + 2) (m .words .2)) (held (m .state)) (i + 1)
   standing-more words state i m g h made =
       let call = callOf (getD calls (3 * i) 0) (getD calls (3 * i + 1) 0) (getD calls (3 * i + 2) 0) in
       let before = take i (callsOf calls) in
@@ -156,17 +158,17 @@ module _ (limit : ℕ) (calls old : List ℕ) (s : Arbiter) (n : ℕ) where
         calls-fit = bound;
         answers-fit = room;
         same-length = simp length-set (g .same-length);
-        after = made .state ∙ ap (λ (x : Arbiter). called limit x call .state) (g .after) ∙ sym (ap (end (called limit) s) next ∙ end-more (called limit) s before call);
+        after = made .state ∙ ap (λ (x : State). called limit x call .state) (g .after) ∙ sym (ap (end (called limit) s) next ∙ end-more (called limit) s before call);
         written =
             ap (λ (l : List ℕ). set (set (set l (3 * i) (m .words .0)) (3 * i + 1) (m .words .1)) (3 * i + 2) (m .words .2)) (g .written)
             ∙ written-more (wordsOf heard) old (3 * i) (m .words .0) (m .words .1) (m .words .2) (length-so-far i (omega arith)) (omega arith)
-            ∙ ap (λ (l : List ℕ). writtenOver (wordsOf heard ++ l) old) (made .words ∙ ap (λ (x : Arbiter). answerWords (called limit x call .answer)) (g .after))
+            ∙ ap (λ (l : List ℕ). writtenOver (wordsOf heard ++ l) old) (made .words ∙ ap (λ (x : State). answerWords (called limit x call .answer)) (g .after))
             ∙ ap (λ (l : List ℕ). writtenOver l old) (sym (joined-more answerWords heard (called limit (end (called limit) s before) call .answer)))
             ∙ ap (λ (l : List Answer). writtenOver (wordsOf l) old) (sym (ap (answers (called limit) s) next ∙ answers-more (called limit) s before call));
       }
 
   -- all of them
-  pub standing-last : (words : List ℕ) (state : Arbiter) (i : ℕ) → Standing limit calls old s n words state i → n ≤ i → n ≡ min (length calls / 3) (length old / 3)
+  pub standing-last : (words : List ℕ) (state : State) (i : ℕ) → Standing limit calls old s n words state i → n ≤ i → n ≡ min (length calls / 3) (length old / 3)
       → afterCalls state words ≡ callsFrom limit s calls old
   unfolding callsFrom
   standing-last words state i g h e =
@@ -183,7 +185,7 @@ module _ (limit : ℕ) (t : Table) (first : ℕ) (calls old : List ℕ) (begun :
   replay-refused c q = rw (← e, q)
 
   -- the calls follow an accepted one
-  pub replay-started : (state : Arbiter) (words : List ℕ) → begun .answer ≡ start-answer.Started → afterCalls state words ≡ callsFrom limit (begun .state) calls old
+  pub replay-started : (state : State) (words : List ℕ) → begun .answer ≡ start-answer.Started → afterCalls state words ≡ callsFrom limit (held (begun .state)) calls old
       → afterCalls state words ≡ replay limit t first calls old
   unfolding replay continued
   replay-started state words q r = rw (← e, q) r

@@ -8,12 +8,13 @@ use lib.ListN.{length, take}
 use Rattle.lists.specs.Sums.{joined}
 use Rattle.lists.specs.Overwriting.{writtenOver}
 use Rattle.lists.specs.Runs.{Result, end, answers}
-use Rattle.arbiter.specs.declared.table.Table.{Table}
-use Rattle.arbiter.specs.declared.state.Arbiter.{Arbiter}
+use Rattle.terms.specs.Table.{Table}
+use Rattle.terms.specs.State.{State}
 use Rattle.arbiter.specs.declared.start.StartResult as code-result
-use Rattle.arbiter.specs.Answers.{Answer, accepted, granted, idle, refused, unless}
-use Rattle.arbiter.specs.Start.{startAnswerOf, start}
-use Rattle.calls.specs.Calls.{Call, post, slot, called}
+use Rattle.terms.specs.Answers.{Answer, accepted, granted, idle, refused, unless, startAnswerOf}
+use Rattle.terms.specs.Start.{start}
+use Rattle.arbiter.specs.ByValue.{held}
+use Rattle.rule.specs.Calls.{Call, post, slot, called}
 use Rattle.replay.specs.declared.Words.{Words}
 use Rattle.replay.specs.declared.Made.{Made}
 
@@ -46,23 +47,23 @@ wordsOf heard = joined answerWords heard
 
 -- what a replay comes to: the state, what the start answered, and the lent answers afterwards
 pub record Replayed : Type 0 where
-  pub state : Arbiter
+  pub state : State
   pub answer : Answer
   pub words : List ℕ
 
 -- what an accepted start and the calls from it come to, by the state and the numbers after the calls
-abbrev pub afterCalls : Arbiter → (words : List ℕ) → Replayed
+abbrev pub afterCalls : State → (words : List ℕ) → Replayed
 afterCalls s words = record { state = s; answer = accepted; words = words }
 
 -- the calls from a state, each on the state that the one before handed back
-unfoldable pub callsFrom : ℕ → Arbiter → (calls old : List ℕ) → Replayed
+unfoldable pub callsFrom : ℕ → State → (calls old : List ℕ) → Replayed
 callsFrom limit s calls old =
     afterCalls
     (end (called limit) s (madeCalls calls old))
     (writtenOver (wordsOf (answers (called limit) s (madeCalls calls old))) old)
 
 -- what follows a start: an accepted one the calls; a refused one nothing, and the lent answers are left as they were
-unfoldable pub continued : ℕ → Result Arbiter Answer → (calls old : List ℕ) → Replayed
+unfoldable pub continued : ℕ → Result State Answer → (calls old : List ℕ) → Replayed
 continued limit begun calls old =
     unless (begun .answer)
     (λ why. record { state = begun .state; answer = refused why; words = old })
@@ -74,13 +75,13 @@ replay limit t first calls old = continued limit (start limit t first) calls old
 
 -- the code's result and the lent answers in these values
 abbrev pub replayedOf : code-result.StartResult → (words : List ℕ) → Replayed
-replayedOf r words = record { state = r .state; answer = startAnswerOf (r .answer); words = words }
+replayedOf r words = record { state = held (r .state); answer = startAnswerOf (r .answer); words = words }
 
 -- the code's three numbers as a list
 abbrev pub listed : Words → List ℕ
 listed w = w .0 ∷ w .1 ∷ w .2 ∷ []
 
 -- the code made a call: the state that the call hands back, and the numbers of its answer
-pub record Makes (m : Made) (r : Result Arbiter Answer) : Type 0 where
-  pub state : m .state ≡ r .state
+pub record Makes (m : Made) (r : Result State Answer) : Type 0 where
+  pub state : held (m .state) ≡ r .state
   pub words : listed (m .words) ≡ answerWords (r .answer)

@@ -1,22 +1,23 @@
 // A start and a list of calls from it, each on the state that the one before handed back. Calls and answers are plain numbers in
 // lists that the caller lends: there is no heap to keep them on, and every language can lend a list of numbers.
-use arbiter::refusals::Cause;
-use arbiter::start::StartAnswer;
 use arbiter::start::StartResult;
 use arbiter::state::Arbiter;
 use arbiter::table::Table;
-use arbiter::units::Slots;
-use arbiter::units::Transfers;
-use calls::post::PostAnswer;
 use calls::post::post;
-use calls::slot::SlotAnswer;
 use calls::slot::slot;
+use terms::answers::PostAnswer;
+use terms::answers::SlotAnswer;
+use terms::answers::StartAnswer;
+use terms::refusals::Cause;
+use terms::units::Slots;
+use terms::units::Transfers;
 ghost use mathlib.Core.Path.{_≡_};
 ghost use Prim.Native.Nat.{_/_, min};
-ghost use Rattle.arbiter.specs.Limits.{maxPlaces};
-ghost use Rattle.arbiter.specs.Refusals.{refusalOf};
-ghost use Rattle.arbiter.specs.Answers.{refused};
-ghost use Rattle.calls.specs.Calls.{post, slot, called};
+ghost use Rattle.terms.specs.Limits.{maxPlaces};
+ghost use Rattle.terms.specs.Refusals.{refusalOf};
+ghost use Rattle.terms.specs.Answers.{refused};
+ghost use Rattle.arbiter.specs.ByValue.{held, given};
+ghost use Rattle.rule.specs.Calls.{post, slot, called};
 ghost use Rattle.replay.specs.Replay.{callOf, answerWords, afterCalls, callsFrom, replay, replayedOf, listed, Makes};
 
 // An answer as three numbers.
@@ -37,7 +38,7 @@ fn refusal_words(c: Cause) -> Words
 }
 
 fn make_post(s: Arbiter, place: u32, count: u32) -> Made
-    ensures { λ m. ⌜ Makes m (called maxPlaces s (post place count)) ⌝ }
+    ensures { λ m. ⌜ Makes m (called maxPlaces (held s) (post place count)) ⌝ }
 {
     let r = post(s, place as usize, Transfers(count as u64));
     let next = r.state;
@@ -55,7 +56,7 @@ fn make_post(s: Arbiter, place: u32, count: u32) -> Made
 }
 
 fn make_slot(s: Arbiter) -> Made
-    ensures { λ m. ⌜ Makes m (called maxPlaces s slot) ⌝ }
+    ensures { λ m. ⌜ Makes m (called maxPlaces (held s) slot) ⌝ }
 {
     let r = slot(s);
     let next = r.state;
@@ -77,7 +78,7 @@ fn make_slot(s: Arbiter) -> Made
 }
 
 fn make_call(s: Arbiter, what: u32, place: u32, count: u32) -> Made
-    ensures { λ m. ⌜ Makes m (called maxPlaces s (callOf what place count)) ⌝ }
+    ensures { λ m. ⌜ Makes m (called maxPlaces (held s) (callOf what place count)) ⌝ }
 {
     if what == 0 {
         make_slot(s)
@@ -100,7 +101,7 @@ fn calls_with_room(numbers: usize, room: usize) -> usize
 
 // Every call that its answer has room for. A loop and no recursion: a list may be long, and each turn would keep a state.
 fn make_calls(s: Arbiter, calls: &[u32], answers: &mut [u64]) -> Arbiter
-    ensures { λ r. ⌜ afterCalls r (now (answers .exit)) ≡ callsFrom maxPlaces s (now (calls .entry)) (now (answers .entry)) ⌝ }
+    ensures { λ r. ⌜ afterCalls (held r) (now (answers .exit)) ≡ callsFrom maxPlaces (held s) (now (calls .entry)) (now (answers .entry)) ⌝ }
 {
     let n = calls_with_room(calls.len(), answers.len());
     let mut state = s;
@@ -124,7 +125,7 @@ fn make_calls(s: Arbiter, calls: &[u32], answers: &mut [u64]) -> Arbiter
 // other for a post, the place, and the count. An answer is three numbers: 0, 0, 0 for accepted; 1, the stamp and the place for
 // granted; 2, the stamp and 0 for idle; 3, the refusal's number and 0 for refused.
 pub fn replay(t: Table, first: Slots, calls: &[u32], answers: &mut [u64]) -> StartResult
-    ensures { λ r. ⌜ replayedOf r (now (answers .exit)) ≡ replay maxPlaces t (first .0) (now (calls .entry)) (now (answers .entry)) ⌝ }
+    ensures { λ r. ⌜ replayedOf r (now (answers .exit)) ≡ replay maxPlaces (given t) (first .0) (now (calls .entry)) (now (answers .entry)) ⌝ }
 {
     let begun = Arbiter::start(t, first);
     let s = begun.state;

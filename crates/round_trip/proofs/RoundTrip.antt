@@ -1,5 +1,5 @@
 -- Bytes written from an accepted table read back as it; accepted bytes written again are the same bytes. Assumes nothing.
-use mathlib.Core.Path.{_≡_, refl, ap, ap₂, sym, subst, _∙_}
+use mathlib.Core.Path.{_≡_, refl, ap, ap₂, sym, _∙_}
 use mathlib.Core.Bool.{true}
 use mathlib.Core.List.{List, [], _∷_, _++_, append-nil, append-assoc}
 use Prim.Native.Nat.{ℕ, zero, suc, _≤_}
@@ -15,18 +15,15 @@ use Rattle.groups.specs.Groups.{maxNumber, numberBytes}
 use Rattle.groups.specs.Inverse.{Bytes}
 use Rattle.groups.proofs.Inverse.{bytes-append, five-bytes}
 use Rattle.groups.proofs.Inverse as groups
-use Rattle.arbiter.specs.declared.refusals.Refusal.{Refusal}
-use Rattle.arbiter.specs.declared.table.Requestor.{Requestor}
-use Rattle.arbiter.specs.declared.table.Table.{Table}
-use Rattle.arbiter.specs.Refusals.{Verdict, faultless, fault, gate, then, resolve}
-use Rattle.arbiter.specs.Answers.{accepted}
-use Rattle.arbiter.specs.Answers as answers
-use Rattle.arbiter.specs.Table.{rowNumbers, noRequestor, requestorClear, requestorsOf, tableOf, Bounds, denominatorBounds, countBounds, rateBounds, burstBounds, needBounds, withinBounds, heldTo, rowVerdict, eachPlace, tailVerdict, rateSumVerdict, tableVerdict}
-use Rattle.arbiter.specs.Figures.{finishesVerdict, admissionVerdict}
-use Rattle.arbiter.proofs.Checks.{gate-open, then-open, held-open, Passed, passed}
-use Rattle.table_bytes.specs.Reading.{Read, read, stop, next, fieldRead, itemsRead, rowRead, rowsRead, placesRead, numbersRead, lastVerdict, TableRead, accept, refuse, settled, readTable}
+use Rattle.terms.specs.declared.place.Requestor.{Requestor}
+use Rattle.terms.specs.Table.{Table, rowNumbers, noRequestor, requestorClear, requestorsOf, tableOf, Bounds, denominatorBounds, countBounds, rateBounds, burstBounds, needBounds, withinBounds, heldTo, rowVerdict, eachPlace, tableVerdict}
+use Rattle.terms.specs.Refusals.{Verdict, faultless, fault, gate, then, resolve}
+use Rattle.terms.specs.Figures.{finishesVerdict, admissionVerdict}
+use Rattle.terms.proofs.Checks.{then-open, held-open, Passed, passed}
+use Rattle.table_bytes.specs.Reading.{read, next, fieldRead, itemsRead, rowRead, rowsRead, placesRead, numbersRead, lastVerdict, accept, settled, readTable}
 use Rattle.table_bytes.specs.Writing.{tableNumbers, tableBytes, writeVerdict, wrote, refused, TableWritten, writeTable}
-use Rattle.table_bytes.proofs.Accepted.{Spent, spent-more, field-open, field-spent, next-open, read-same, rows-open, table-rows, table-admission}
+use Rattle.table_bytes.proofs.Accepted.{table-rows}
+use Rattle.table_bytes.proofs.Opened.{Opened, table-open}
 use Rattle.round_trip.specs.RoundTrip.{Bytes-read-back, Written-reads-back, Read-writes-back}
 
 -- ---- written, then read
@@ -190,60 +187,6 @@ written-reads-back limit t old k small long e =
     rw bytes (table-reads limit t small long (w .admitted))
 
 -- ---- read, then written
-
-refused-accepted : {X : Type 0} (limit : ℕ) (why : Refusal) (t : Table) → refuse limit why ≡ accept t → X
-refused-accepted limit why t e =
-    let answers : answers.refused why ≡ accepted = ap (λ (x : TableRead). x .answer) e in
-    let z : _≡_ {A = ℕ} 0 1 = cc in
-    absurd (omega arith)
-
--- what an accepted reading took from its bytes
-record Opened (limit : ℕ) (bytes : List ℕ) (t : Table) : Type 0 where
-  d : ℕ
-  n : ℕ
-  rows : List Requestor
-  count : length rows ≡ n
-  table : tableOf limit d n rows ≡ t
-  admitted : admissionVerdict limit t ≡ faultless
-  spent : Spent (d ∷ n ∷ joined rowNumbers rows) bytes []
-
--- nothing is left, and 6 and 7 pass
-last-open : (t : Table) (rest : List ℕ) → lastVerdict t rest ≡ faultless → (rest ≡ []) × (then (rateSumVerdict t) (finishesVerdict t) ≡ faultless)
-unfolding lastVerdict
-last-open t [] e = (refl, then-open _ _ e .1)
-last-open t (x ∷ rest) e = let none = eqb-true (suc (length rest)) 0 (gate-open _ _ _ (then-open _ _ e .0) .0) in absurd (omega (arith, none))
-
-settled-open : (limit : ℕ) (r : Read Table) (t : Table) → settled limit r ≡ accept t → (rest : List ℕ) × (r ≡ read t rest) × (lastVerdict t rest ≡ faultless)
-unfolding settled
-settled-open limit (read u rest) t e = told (lastVerdict u rest) refl e where
-  told : (v : Verdict) → lastVerdict u rest ≡ v → resolve v (accept u) (refuse limit) ≡ accept t → (l : List ℕ) × (read u rest ≡ read t l) × (lastVerdict t l ≡ faultless)
-  told faultless f g = let same : u ≡ t = ap (λ (x : TableRead). x .table) g in (rest, ap (λ x. read x rest) same, rw same at f)
-  told (fault why) f g = refused-accepted limit why t g
-settled-open limit (stop why) t e = refused-accepted limit why t e
-
-table-open : (limit : ℕ) (bytes : List ℕ) (t : Table) → readTable limit bytes ≡ accept t → Opened limit bytes t
-unfolding readTable numbersRead placesRead
-table-open limit bytes t e =
-    let (rest, whole, last) = settled-open limit (numbersRead limit bytes) t e in
-    let (none, checked) = last-open t rest last in
-    let d = next-open _ _ t rest whole in
-    let n = next-open _ _ t rest (d .second) in
-    let p = next-open _ _ t rest (n .second) in
-    let same = read-same _ t _ rest (p .second) in
-    let one = field-open denominatorBounds bytes (d .value) (d .left) (d .first) in
-    let two = field-open (countBounds limit) (d .left) (n .value) (n .left) (n .first) in
-    let rows = rows-open (n .value) (d .value) 0 (n .left) (p .value) (p .left) (p .first) in
-    let admission = table-admission limit (d .value) (n .value) (p .value) (rows .count) (one .held) (two .held) (rows .passes) in
-    let numbers = spent-more (d .value ∷ []) (n .value ∷ joined rowNumbers (p .value)) (field-spent one) (spent-more (n .value ∷ []) (joined rowNumbers (p .value)) (field-spent two) (rows .spent)) in
-    record {
-      d = d .value;
-      n = n .value;
-      rows = p .value;
-      count = rows .count;
-      table = same .0;
-      admitted = (rw (same .0) at admission) ∙ checked;
-      spent = subst (λ l. Spent (d .value ∷ n .value ∷ joined rowNumbers (p .value)) bytes l) (same .1 ∙ none) numbers;
-    }
 
 -- the table's bytes are those that it was read from
 table-bytes : {limit : ℕ} {bytes : List ℕ} {t : Table} → Bytes bytes → Opened limit bytes t → tableBytes t ≡ bytes

@@ -7,9 +7,9 @@ use lib.ListN.{length, take}
 use Rattle.lists.specs.Overwriting.{writtenOver}
 use Rattle.groups.specs.Groups.{maxNumber}
 use Rattle.groups.specs.Inverse.{Bytes}
-use Rattle.arbiter.specs.declared.table.Table.{Table}
-use Rattle.arbiter.specs.Refusals.{faultless}
-use Rattle.arbiter.specs.Figures.{admissionVerdict}
+use Rattle.terms.specs.Table.{Table}
+use Rattle.terms.specs.Refusals.{faultless}
+use Rattle.terms.specs.Figures.{admissionVerdict}
 use Rattle.table_bytes.specs.Reading.{accept, readTable}
 use Rattle.table_bytes.specs.Writing.{tableBytes, wrote, writeTable}
 

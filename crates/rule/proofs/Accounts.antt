@@ -7,9 +7,9 @@ use native.Mathlib.Omega.{arith}
 use borrow.Author.Tests.{ltb-true, leb-true, leb-false, lt-ltb, le-ltb}
 use lib.Dec.{ltb, leb}
 use Rattle.lists.proofs.Tests.{cases, true-false}
-use Rattle.arbiter.specs.declared.table.Requestor.{Requestor}
-use Rattle.arbiter.specs.declared.state.Account.{Account}
-use Rattle.arbiter.specs.State.{backlog}
+use Rattle.terms.specs.declared.place.Requestor.{Requestor}
+use Rattle.terms.specs.declared.place.Account.{Account}
+use Rattle.terms.specs.State.{backlog}
 use Rattle.rule.specs.Rule.{eligible, passed}
 
 module _ (r : Requestor) (a : Account) where

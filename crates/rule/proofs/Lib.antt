@@ -1,5 +1,12 @@
--- Laws that belong to no one function: one account, the search, the update, and the places in columns.
+-- Laws that belong to no one function: one account, the search, the update, what a slot does to the accounts and their credits, that it
+-- keeps a state sound, the verdicts on a call, and slots one after the other with their log.
 pub mod Accounts
 pub mod Search
 pub mod Updates
-pub mod InColumns
+pub mod Verdicts
+pub mod Grants
+pub mod Head
+pub mod Slots
+pub mod Credits
+pub mod Kept
+pub mod Logs

@@ -9,16 +9,14 @@ use native.Mathlib.Omega.{arith}
 use borrow.Author.Tests.{eqb-true, eqb-false}
 use lib.Dec.{eqb}
 use lib.ListN.{length, take}
-use lib.Seq.{getD-take}
 use Rattle.lists.proofs.Tests.{cases, true-false}
-use Rattle.arbiter.specs.declared.table.Requestor.{Requestor}
-use Rattle.arbiter.specs.declared.state.Account.{Account}
-use Rattle.arbiter.specs.State.{noAccount, accountAt}
-use Rattle.arbiter.specs.Table.{requestorAt, noRequestor}
+use Rattle.terms.specs.declared.place.Requestor.{Requestor}
+use Rattle.terms.specs.declared.place.Account.{Account}
+use Rattle.terms.specs.State.{noAccount, accountAt}
+use Rattle.terms.specs.Table.{requestorAt}
 use Rattle.rule.specs.declared.rule.Grant.{Grant}
 use Rattle.rule.specs.declared.rule.Grant.the-variants.{Nobody, Place}
 use Rattle.rule.specs.Rule.{eligible, firstEligible, later}
-use Rattle.rule.specs.Grants.{names}
 
 -- past the accounts nobody is eligible
 eligible-none : (d : ℕ) (r : Requestor) → eligible d r noAccount ≡ true → ⊥
@@ -72,11 +70,3 @@ module _ (d : ℕ) where
           → firstEligible d rs accounts ≡ g → later g ≡ Place p → Found p (r ∷ rs) (a ∷ accounts)
       further p Nobody rest f e = let z : _≡_ {A = ℕ} 0 1 = cc in absurd (omega arith)
       further p (Place i) rest f e = let z : suc i ≡ p = cc in rw (← z) (omega (arith, rest i f .0), rest i f .1)
-
-  -- the place that a grant names is eligible
-  pub named-eligible : (n p : ℕ) (rs : List Requestor) (accounts : List Account) (g : Grant) → p < n → g ≡ firstEligible d (take n rs) accounts → names g p ≡ true
-      → eligible d (requestorAt p rs) (accountAt p accounts) ≡ true
-  named-eligible n p rs accounts Nobody h e q = true-false (sym q)
-  named-eligible n p rs accounts (Place i) h e q =
-      let same : i ≡ p = eqb-true i p q in
-      rw (getD-take n rs p noRequestor h) at (first-found p (take n rs) accounts (sym e ∙ ap Place same) .1)

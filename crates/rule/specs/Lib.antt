@@ -1,4 +1,5 @@
--- Document 01's rule of a slot, and the columns that it is carried out on.
+-- Document 01's rule of a slot, what a post and a slot do to a state, and a run with its log.
 pub mod Rule
 pub mod Grants
-pub mod Columns
+pub mod Calls
+pub mod Log

@@ -7,7 +7,7 @@ use listing::steps::first_step;
 use listing::steps::step;
 ghost use Prim.Native.Nat.{_≤_};
 ghost use lib.ListN.{length};
-ghost use Rattle.arbiter.specs.Limits.{maxPlaces};
+ghost use Rattle.terms.specs.Limits.{maxPlaces};
 ghost use Rattle.listing.specs.Room.{lineRoom};
 ghost use Rattle.slotlist.specs.Input.{bytesOf};
 

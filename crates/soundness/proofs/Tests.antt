@@ -1,59 +1,22 @@
--- Verdicts as tests: a series of checks finds no fault where each of its tests passes. So test 23 is a row of tests. Assumes nothing.
-use mathlib.Core.Path.{_≡_, refl, ap, sym, _∙_}
+-- Test 23 is a row of tests. Assumes nothing.
+use mathlib.Core.Path.{_≡_, refl, sym, _∙_}
 use mathlib.Core.Bool.{Bool, true, false, _&&_}
 use mathlib.Core.List.{List}
 use Prim.Native.Nat.{ℕ, _≤_, _<_}
 use borrow.Author.Tests.{le-leb, lt-leb}
 use lib.Dec.{leb}
-use lib.ListN.{length, take, drop, getD}
+use lib.ListN.{length, drop, getD}
 use Rattle.lists.specs.Choices.{inRange}
 use Rattle.lists.specs.Sums.{total, every}
 use Rattle.lists.proofs.Tests.{and-false, in-range-true}
-use Rattle.arbiter.specs.declared.refusals.Refusal.{Refusal}
-use Rattle.arbiter.specs.declared.table.Requestor.{Requestor}
-use Rattle.arbiter.specs.declared.table.Table.{Table}
-use Rattle.arbiter.specs.declared.state.Arbiter.{Arbiter}
-use Rattle.arbiter.specs.Limits.{maxDenominator, maxSlot}
-use Rattle.arbiter.specs.Refusals.{Verdict, faultless, fault, gate, then}
-use Rattle.arbiter.specs.Table.{Bounds, rate, rateBounds, burstBounds, needBounds, withinBounds, denominatorBounds, countBounds, heldTo, requestorClear, requestorsOf, rowVerdict, eachPlace, tailVerdict, rateSumVerdict, tableVerdict}
-use Rattle.arbiter.specs.State.{accountClear, isFaultless, accountsHold, sound}
+use Rattle.terms.specs.Table.{Table, rate, denominatorBounds, countBounds, heldTo, requestorClear, requestorsOf, rowVerdict, eachPlace, tailVerdict, rateSumVerdict, tableVerdict}
+use Rattle.terms.specs.State.{State, accountClear, isFaultless, accountsHold, sound}
+use Rattle.terms.specs.Limits.{maxDenominator, maxSlot}
+use Rattle.terms.specs.Refusals.{then}
+use Rattle.terms.proofs.AsTests.{both, gated, within}
 use Rattle.layout.specs.Words.{placeStart, wordCount, roomOf, wordsState, stateOf, isZero}
 use Rattle.layout.proofs.Stores.{clear-from}
 use Rattle.soundness.specs.Soundness.{placesHold}
-
-both : (v w : Verdict) → isFaultless (then v w) ≡ (isFaultless v && isFaultless w)
-unfolding then
-both faultless w = refl
-both (fault r) w = refl
-
-gated : (r : Refusal) (test : Bool) → isFaultless (gate r test faultless) ≡ test
-unfolding gate
-gated r true = refl
-gated r false = refl
-
-within : (b : Bounds) (x : ℕ) → isFaultless (heldTo b x) ≡ inRange (b .low) (b .high) x
-unfolding heldTo
-within b x = gated (b .outside) (inRange (b .low) (b .high) x)
-
--- what the code's bounds admit, the field's do
-pub admitted : (v : Bool) (b field : Bounds) (x : ℕ) → v ≡ inRange (b .low) (b .high) x → b ≡ field → inRange (field .low) (field .high) x ≡ v
-admitted v b field x e f = sym (e ∙ ap (λ y. inRange (y .low) (y .high) x) f)
-
--- checks 3, 4 and 5 of a row
-pub row-test : (d p : ℕ) (r : Requestor)
-    → isFaultless (rowVerdict d p r)
-    ≡ (inRange (rateBounds d p .low) (rateBounds d p .high) (r .rate)
-    && (inRange (burstBounds d p .low) (burstBounds d p .high) (r .burst)
-    && (inRange (needBounds p .low) (needBounds p .high) (r .need .0)
-    && inRange (withinBounds p .low) (withinBounds p .high) (r .within .0))))
-unfolding rowVerdict
-row-test d p r =
-    let rates = heldTo (rateBounds d p) (r .rate) in
-    let bursts = heldTo (burstBounds d p) (r .burst) in
-    let needs = heldTo (needBounds p) (r .need .0) in
-    let withins = heldTo (withinBounds p) (r .within .0) in
-    both rates (then bursts (then needs withins))
-    ∙ rw (both bursts (then needs withins), both needs withins, within (rateBounds d p) (r .rate), within (burstBounds d p) (r .burst), within (needBounds p) (r .need .0), within (withinBounds p) (r .within .0))
 
 -- checks 1 to 6
 table-test : (limit : ℕ) (t : Table)
@@ -93,7 +56,7 @@ regroup true true false true sum true accounts clear = sym (and-false (accounts 
 regroup true true true true sum true true clear = refl
 regroup true true true true sum true false clear = and-false sum false refl
 
-module _ (limit : ℕ) (s : Arbiter) where
+module _ (limit : ℕ) (s : State) where
   abbrev n : ℕ
   n = s .table .count
 

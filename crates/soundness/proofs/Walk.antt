@@ -1,6 +1,6 @@
 -- The walk of test 23: what it has found after p places, what makes it stop, and its end. Assumes nothing.
 use mathlib.Core.Path.{_≡_, refl, ap, sym, _∙_}
-use mathlib.Core.Bool.{Bool, true, false, _&&_}
+use mathlib.Core.Bool.{true, false, _&&_}
 use mathlib.Core.List.{List}
 use Prim.Native.Nat.{ℕ, suc, _+_, _-_, _*_, _≤_, _<_}
 use native.Mathlib.Numerals.{add-one}
@@ -12,15 +12,15 @@ use lib.Seq.{getD-take}
 use Rattle.lists.specs.Sums.{total, every, upTo}
 use Rattle.lists.proofs.Tests.{cases, true-false, and-true, true-and, and-false, every-more, every-fails, up-to-fails}
 use Rattle.lists.proofs.Sums.{total-take-suc}
-use Rattle.arbiter.specs.declared.table.Requestor.{Requestor}
-use Rattle.arbiter.specs.declared.state.Account.{Account}
-use Rattle.arbiter.specs.Limits.{maxDenominator, maxBurst}
-use Rattle.arbiter.specs.Refusals.{Verdict, faultless, fault}
-use Rattle.arbiter.specs.Table.{rate, burst, noRequestor, rowVerdict, eachPlace}
-use Rattle.arbiter.specs.State.{credit, noAccount, backlogFits, creditsHold, isFaultless, accountsHold}
-use Rattle.arbiter.proofs.Checks.{Row, row-open}
-use Rattle.arbiter.proofs.Places.{each-pass, each-stop, each-end}
-use Rattle.arbiter.proofs.Sound.{is-faultless-true}
+use Rattle.terms.specs.declared.place.Requestor.{Requestor}
+use Rattle.terms.specs.declared.place.Account.{Account}
+use Rattle.terms.specs.Limits.{maxDenominator, maxBurst}
+use Rattle.terms.specs.Refusals.{Verdict, faultless, fault}
+use Rattle.terms.specs.Table.{rate, burst, noRequestor, rowVerdict, eachPlace}
+use Rattle.terms.specs.State.{credit, noAccount, backlogFits, creditsHold, isFaultless, accountsHold}
+use Rattle.terms.proofs.Checks.{Row, row-open}
+use Rattle.terms.proofs.Places.{each-pass, each-stop, each-end}
+use Rattle.terms.proofs.Sound.{is-faultless-true}
 use Rattle.soundness.specs.Soundness.{placesHold}
 
 module _ (d n : ℕ) (rs : List Requestor) (accounts : List Account) where

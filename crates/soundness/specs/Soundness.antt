@@ -6,10 +6,10 @@ use Prim.Native.Nat.{ℕ}
 use lib.Dec.{leb}
 use lib.ListN.{take}
 use Rattle.lists.specs.Sums.{total}
-use Rattle.arbiter.specs.declared.table.Requestor.{Requestor}
-use Rattle.arbiter.specs.declared.state.Account.{Account}
-use Rattle.arbiter.specs.Table.{rate, rowVerdict, eachPlace}
-use Rattle.arbiter.specs.State.{isFaultless, accountsHold}
+use Rattle.terms.specs.declared.place.Requestor.{Requestor}
+use Rattle.terms.specs.declared.place.Account.{Account}
+use Rattle.terms.specs.Table.{rate, rowVerdict, eachPlace}
+use Rattle.terms.specs.State.{isFaultless, accountsHold}
 
 unfoldable pub placesHold : (d n : ℕ) → List Requestor → List Account → Bool
 placesHold d n rs accounts =

@@ -1,8 +1,7 @@
 // Test 23: one walk over the table's places, and then every word past them.
-use arbiter::bounds::Bounds;
-use arbiter::state::Account;
+use arbiter::bounds::denominator_bounds;
+use arbiter::rows::row_holds;
 use arbiter::state::Arbiter;
-use arbiter::table::Requestor;
 use layout::words::account;
 use layout::words::count;
 use layout::words::denominator;
@@ -10,32 +9,16 @@ use layout::words::is_clear_from;
 use layout::words::requestor;
 use layout::words::room_of;
 use layout::words::slot_number;
+use terms::place::Account;
+use terms::place::Requestor;
 ghost use mathlib.Core.Path.{_≡_};
 ghost use mathlib.Core.Bool.{true, _&&_};
 ghost use Prim.Native.Nat.{_≤_};
-ghost use Rattle.arbiter.specs.Limits.{maxPlaces, maxDenominator};
-ghost use Rattle.arbiter.specs.Table.{rowVerdict};
-ghost use Rattle.arbiter.specs.State.{backlogFits, isFaultless, sound};
+ghost use Rattle.terms.specs.Limits.{maxPlaces, maxDenominator};
+ghost use Rattle.terms.specs.Table.{rowVerdict};
+ghost use Rattle.terms.specs.State.{backlogFits, isFaultless, sound};
 ghost use Rattle.layout.specs.Words.{roomOf, rightLength, stateOf};
 ghost use Rattle.soundness.specs.Soundness.{placesHold};
-
-// Checks 3, 4 and 5 of the row at place p.
-pub fn row_holds(d: u64, p: usize, r: Requestor) -> bool
-    ensures { λ b. ⌜ b ≡ isFaultless (rowVerdict d p r) ⌝ }
-{
-    let j = r.need;
-    let l = r.within;
-    if !Bounds::of_rate(d, p).admits(r.rate) {
-        return false;
-    }
-    if !Bounds::of_burst(d, p).admits(r.burst) {
-        return false;
-    }
-    if !Bounds::of_need(p).admits(j.0) {
-        return false;
-    }
-    Bounds::of_within(p).admits(l.0)
-}
 
 // Its checks, and its backlog's limit.
 fn place_holds(d: u64, p: usize, r: Requestor, a: Account) -> bool
@@ -81,7 +64,7 @@ pub fn is_sound(words: &[u64]) -> bool
     let d = denominator(words);
     let n = count(words);
     let at = slot_number(words);
-    if !Bounds::of_denominator().admits(d) {
+    if !denominator_bounds().admits(d) {
         return false;
     }
     if n < 1 {

@@ -6,20 +6,20 @@ use Prim.Native.Nat.{ℕ, _+_, _-_, _≤_, _<_}
 use native.Mathlib.Omega.{arith}
 use lib.Dec.{eqb}
 use lib.ListN.{length, take, drop}
-use Rattle.arbiter.specs.declared.refusals.Refusal.{Refusal}
-use Rattle.arbiter.specs.declared.table.Requestor.{Requestor}
-use Rattle.arbiter.specs.declared.table.Table.{Table}
-use Rattle.arbiter.specs.Refusals.{Verdict, faultless, fault, refusal, gate, then, resolve}
-use Rattle.arbiter.specs.Table.{tableOf, denominatorBounds, countBounds, heldTo}
-use Rattle.arbiter.specs.Figures.{admissionVerdict}
-use Rattle.arbiter.specs.Start.{startVerdict, start}
-use Rattle.arbiter.proofs.Checks.{held-open}
-use Rattle.table_bytes.specs.Reading.{read, stop, TableRead, rowRead, placesRead, accept, refuse, settled}
+use Rattle.terms.specs.declared.refusals.Refusal.{Refusal}
+use Rattle.terms.specs.declared.place.Requestor.{Requestor}
+use Rattle.terms.specs.Table.{Table, tableOf, denominatorBounds, countBounds, heldTo}
+use Rattle.terms.specs.Refusals.{Verdict, faultless, fault, refusal, gate, then, resolve}
+use Rattle.terms.specs.Figures.{admissionVerdict}
+use Rattle.terms.specs.Start.{startVerdict, start, opening, noState, turnedDown}
+use Rattle.terms.proofs.Checks.{held-open}
+use Rattle.table_bytes.specs.Reading.{read, stop, TableRead, rowRead, placesRead, accept, refuse, settled, readTable}
 use Rattle.table_bytes.proofs.Readings.{Sofar, sofar-none, sofar-next, done-stop, done-end}
 use Rattle.table_bytes.proofs.Accepted.{settled-stop, settled-read}
+use Rattle.table_bytes.proofs.Opened.{Ends, turned-down, carried-out, read-ends}
 use Rattle.layout.specs.Words.{wordCount, roomOf, wordsState, stateOf, putRow}
 use Rattle.layout.proofs.Stores.{same-room, put-row, put-row-length}
-use Rattle.starts.specs.Starts.{turnedDown, begun}
+use Rattle.starts.specs.Starts.{begun}
 
 -- ---- by the reader's verdict
 
@@ -95,3 +95,15 @@ module _ (entry old bytes : List ℕ) (d n : ℕ) (long : length entry ≡ wordC
         rw same-words
         (begun-checked (roomOf entry) t first (gate (refusal 10) (eqb (length left) 0) faultless)
         ∙ ap (λ x. begun (roomOf entry) x first) (settled-read (roomOf entry) d n bytes t (sofar .rows) left one two (done-end (sofar .done) h) (sofar .table)))
+
+-- ---- a reading is a start at slot 0
+
+-- its table and its answer are the reading's: the start's own checks find no fault in a table that was read
+pub read-of-start : (room : ℕ) (bytes : List ℕ)
+    → _≡_ {A = TableRead} (record { table = begun room (readTable room bytes) 0 .state .table; answer = begun room (readTable room bytes) 0 .answer }) (readTable room bytes)
+unfolding begun start startVerdict opening noState gate then
+read-of-start room bytes = by (read-ends room bytes) where
+  by : Ends room bytes
+      → _≡_ {A = TableRead} (record { table = begun room (readTable room bytes) 0 .state .table; answer = begun room (readTable room bytes) 0 .answer }) (readTable room bytes)
+  by (turned-down why e) = rw e
+  by (carried-out t e ok) = rw (e, ok)

@@ -1,4 +1,2 @@
--- The laws of a start on words: the rows are laid, the accounts opened, and the bytes read, place after place.
-pub mod Laid
-pub mod Opened
+-- The laws of a start from a table's bytes: the bytes are read, place after place.
 pub mod Begun

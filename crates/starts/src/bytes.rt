@@ -1,28 +1,30 @@
 // A start from a table's bytes: each number is read and checked where its bytes stand, and each row goes straight into the words.
-use crate::laying::lay_head;
-use crate::opening::start_laid;
-use crate::opening::turn_down;
-use arbiter::bounds::Bounds;
-use arbiter::refusals::Cause;
-use arbiter::refusals::InputRefusal;
-use arbiter::start::StartAnswer;
-use arbiter::units::Slots;
+use arbiter::bounds::count_bounds;
+use arbiter::bounds::denominator_bounds;
+use arbiter::start::start_laid;
+use layout::laying::lay_head;
 use layout::words::put_row;
 use layout::words::room_of;
+use opening::turn_down;
 use table_bytes::fields::Field;
 use table_bytes::fields::read_field;
 use table_bytes::rows::Row;
 use table_bytes::rows::read_row;
+use terms::answers::StartAnswer;
+use terms::refusals::Cause;
+use terms::refusals::InputRefusal;
+use terms::units::Slots;
 ghost use mathlib.Core.Path.{_≡_};
 ghost use mathlib.Core.Bool.{true};
 ghost use lib.Dec.{eqb};
-ghost use Rattle.arbiter.specs.Limits.{maxPlaces};
-ghost use Rattle.arbiter.specs.Refusals.{refusal, faultless, gate, resolve};
-ghost use Rattle.arbiter.specs.Table.{denominatorBounds, countBounds, heldTo};
-ghost use Rattle.arbiter.specs.Start.{startAnswerOf, start};
+ghost use Rattle.terms.specs.Limits.{maxPlaces};
+ghost use Rattle.terms.specs.Refusals.{refusal, faultless, gate, resolve};
+ghost use Rattle.terms.specs.Table.{denominatorBounds, countBounds, heldTo};
+ghost use Rattle.terms.specs.Start.{start, turnedDown};
+ghost use Rattle.terms.specs.Answers.{startAnswerOf};
 ghost use Rattle.table_bytes.specs.Reading.{placesRead, settled, readTable};
 ghost use Rattle.layout.specs.Words.{roomOf, rightLength, stateOf};
-ghost use Rattle.starts.specs.Starts.{turnedDown, begun};
+ghost use Rattle.starts.specs.Starts.{begun};
 
 // All rows are laid: check 10, by how many bytes are left, and then the checks of a start. Of these, 1 to 5 pass again.
 fn start_read(left: usize, first: Slots, words: &mut [u64]) -> StartAnswer
@@ -64,13 +66,13 @@ pub fn start_bytes(table: &[u8], first: Slots, words: &mut [u64]) -> StartAnswer
     ensures { λ a. ⌜ record { state = stateOf (now (words .exit)); answer = startAnswerOf a } ≡ begun (roomOf (now (words .entry))) (readTable (roomOf (now (words .entry))) (now (table .entry))) (first .0) ⌝ }
 {
     let room = room_of(words);
-    let d = match read_field(table, Bounds::of_denominator()) {
+    let d = match read_field(table, denominator_bounds()) {
         Field::Value(x) => x,
         Field::Refused(c) => return turn_down(words, c),
     };
     let after_d = d.taken;
     let from_n = &table[after_d..];
-    let n = match read_field(from_n, Bounds::of_count_within(room)) {
+    let n = match read_field(from_n, count_bounds(room)) {
         Field::Value(x) => x,
         Field::Refused(c) => return turn_down(words, c),
     };

@@ -2,6 +2,4 @@
 // largest N.
 
 pub mod bytes;
-mod laying;
 pub mod numbers;
-mod opening;

@@ -1,13 +1,14 @@
 // A start from a table given as numbers.
-use crate::laying::lay;
-use crate::opening::start_laid;
-use arbiter::start::StartAnswer;
-use arbiter::units::Slots;
+use arbiter::start::start_laid;
+use layout::laying::lay;
+use terms::answers::StartAnswer;
+use terms::units::Slots;
 ghost use mathlib.Core.Path.{_≡_};
 ghost use mathlib.Core.Bool.{true};
 ghost use lib.ListN.{length};
-ghost use Rattle.arbiter.specs.Limits.{maxPlaces};
-ghost use Rattle.arbiter.specs.Start.{startAnswerOf, start};
+ghost use Rattle.terms.specs.Limits.{maxPlaces};
+ghost use Rattle.terms.specs.Start.{start};
+ghost use Rattle.terms.specs.Answers.{startAnswerOf};
 ghost use Rattle.layout.specs.Words.{roomOf, rightLength, stateOf};
 ghost use Rattle.layout.specs.Numbers.{numberCount, numbersTable};
 

@@ -16,12 +16,11 @@ use Rattle.groups.specs.declared.reading.Reading.the-variants.{Number, Ended, M
 use Rattle.groups.specs.Groups.{numberOf, numberBytes}
 use Rattle.groups.specs.Inverse.{Bytes, Form}
 use Rattle.groups.proofs.Inverse.{one-form}
-use Rattle.arbiter.specs.declared.refusals.Refusal.{Refusal}
-use Rattle.arbiter.specs.declared.table.Requestor.{Requestor}
-use Rattle.arbiter.specs.declared.table.Table.{Table}
-use Rattle.arbiter.specs.Refusals.{Verdict, faultless, fault, refusal, gate, then, resolve}
-use Rattle.arbiter.specs.Table.{rowNumbers, noRequestor, requestorClear, requestorsOf, tableOf, Bounds, rateBounds, burstBounds, needBounds, withinBounds, denominatorBounds, countBounds, heldTo, rowVerdict, eachPlace, tailVerdict, rateSumVerdict, tableVerdict}
-use Rattle.arbiter.specs.Figures.{finishesVerdict, admissionVerdict}
+use Rattle.terms.specs.declared.refusals.Refusal.{Refusal}
+use Rattle.terms.specs.declared.place.Requestor.{Requestor}
+use Rattle.terms.specs.Table.{Table, rowNumbers, noRequestor, requestorClear, requestorsOf, tableOf, Bounds, rateBounds, burstBounds, needBounds, withinBounds, denominatorBounds, countBounds, heldTo, rowVerdict, eachPlace, tailVerdict, rateSumVerdict, tableVerdict}
+use Rattle.terms.specs.Refusals.{Verdict, faultless, fault, refusal, gate, then, resolve}
+use Rattle.terms.specs.Figures.{finishesVerdict, admissionVerdict}
 use Rattle.table_bytes.specs.Reading.{Read, read, stop, next, readAs, fieldRead, itemsRead, rowRead, rowsRead, placesRead, lastVerdict, accept, refuse, settled}
 use Rattle.table_bytes.proofs.Readings.{Took}
 

@@ -2,3 +2,4 @@
 pub mod Readings
 pub mod Writings
 pub mod Accepted
+pub mod Opened

@@ -10,15 +10,14 @@ use Rattle.lists.specs.Sums.{joined}
 use Rattle.lists.specs.Overwriting.{writtenOver}
 use Rattle.lists.proofs.Sums.{joined-next, length-joined-same}
 use Rattle.lists.proofs.Overwriting.{stored-behind}
-use Rattle.arbiter.specs.declared.refusals.Cause.{Cause}
-use Rattle.arbiter.specs.declared.refusals.Verdict as code
-use Rattle.arbiter.specs.declared.refusals.Verdict.the-variants as code-verdict
-use Rattle.arbiter.specs.declared.table.Requestor.{Requestor}
-use Rattle.arbiter.specs.declared.table.Table.{Table}
-use Rattle.arbiter.specs.Refusals.{faultless, verdictOf, refusal, refusalOf, gate, then}
-use Rattle.arbiter.specs.Table.{rowNumbers, noRequestor, requestorAt, requestorsOf, tableVerdict}
-use Rattle.arbiter.specs.Figures.{admissionVerdict}
-use Rattle.arbiter.proofs.Checks.{Row, fair}
+use Rattle.terms.specs.declared.refusals.Cause.{Cause}
+use Rattle.terms.specs.declared.refusals.Verdict as code
+use Rattle.terms.specs.declared.refusals.Verdict.the-variants as code-verdict
+use Rattle.terms.specs.declared.place.Requestor.{Requestor}
+use Rattle.terms.specs.Table.{Table, rowNumbers, noRequestor, requestorAt, requestorsOf, tableVerdict}
+use Rattle.terms.specs.Refusals.{faultless, verdictOf, refusal, refusalOf, gate, then}
+use Rattle.terms.specs.Figures.{admissionVerdict}
+use Rattle.terms.proofs.Checks.{Row, fair}
 use Rattle.groups.specs.Groups.{numberBytes}
 use Rattle.table_bytes.specs.Writing.{tableNumbers, tableBytes, writeVerdict, wrote, refused, TableWritten, writeTable}
 

@@ -8,20 +8,16 @@ use lib.ListN.{length, drop}
 use Rattle.groups.specs.declared.reading.Reading as number
 use Rattle.groups.specs.declared.reading.Reading.the-variants.{Number, Ended, Malformed}
 use Rattle.groups.specs.Groups.{numberOf}
-use Rattle.arbiter.specs.declared.refusals.Refusal.{Refusal}
-use Rattle.arbiter.specs.declared.table.Requestor.{Requestor}
-use Rattle.arbiter.specs.declared.table.Table.{Table}
-use Rattle.arbiter.specs.Refusals.{Verdict, faultless, refusal, refusalOf, gate, then, resolve}
-use Rattle.arbiter.specs.Answers.{Answer, accepted, refused}
-use Rattle.arbiter.specs.Table.{tableOf, noTable, Bounds, denominatorBounds, countBounds, rateBounds, burstBounds, needBounds, withinBounds, heldTo, rateSumVerdict}
-use Rattle.arbiter.specs.Figures.{finishesVerdict}
+use Rattle.terms.specs.declared.refusals.Refusal.{Refusal}
+use Rattle.terms.specs.declared.place.Requestor.{Requestor}
+use Rattle.terms.specs.Table.{Table, tableOf, noTable, Bounds, denominatorBounds, countBounds, rateBounds, burstBounds, needBounds, withinBounds, heldTo, rateSumVerdict}
+use Rattle.terms.specs.Refusals.{Verdict, faultless, refusal, refusalOf, gate, then, resolve}
+use Rattle.terms.specs.Answers.{Answer, accepted, refused}
+use Rattle.terms.specs.Figures.{finishesVerdict}
 use Rattle.table_bytes.specs.declared.fields.Field.{Field}
 use Rattle.table_bytes.specs.declared.fields.Field.the-variants as field
 use Rattle.table_bytes.specs.declared.rows.Row.{Row}
 use Rattle.table_bytes.specs.declared.rows.Row.the-variants as row
-use Rattle.table_bytes.specs.declared.reader.ReadAnswer.{ReadAnswer}
-use Rattle.table_bytes.specs.declared.reader.ReadAnswer.the-variants as code
-use Rattle.table_bytes.specs.declared.reader.ReadResult as code-result
 
 -- what a reading from the start of some bytes comes to: a value and the rest of the bytes, or a refusal
 pub data Read (X : Type 0) : Type 0 where
@@ -101,7 +97,7 @@ settled limit (stop r) = refuse limit r
 unfoldable pub readTable : ℕ → List ℕ → TableRead
 readTable limit bytes = settled limit (numbersRead limit bytes)
 
--- the code's results in these values: a field and a row with how many of the bytes they took, and the call's own result
+-- the code's results in these values: a field and a row with how many of the bytes they took
 abbrev pub fieldOf : List ℕ → Field → Read ℕ
 fieldOf bytes (field.Value x) = read (x .value) (drop (x .taken) bytes)
 fieldOf bytes (field.Refused c) = stop (refusalOf c)
@@ -109,13 +105,6 @@ fieldOf bytes (field.Refused c) = stop (refusalOf c)
 abbrev pub rowOf : List ℕ → Row → Read Requestor
 rowOf bytes (row.Taken r taken) = read r (drop taken bytes)
 rowOf bytes (row.Refused c) = stop (refusalOf c)
-
-abbrev pub readAnswerOf : ReadAnswer → Answer
-readAnswerOf code.Accepted = accepted
-readAnswerOf (code.Refused c) = refused (refusalOf c)
-
-abbrev pub readResultOf : code-result.ReadResult → TableRead
-readResultOf r = record { table = r .table; answer = readAnswerOf (r .answer) }
 
 -- how many bytes a field or a row took
 abbrev pub takenByField : Field → ℕ

@@ -1,19 +1,18 @@
 -- Document 01, "Table bytes", as they are written to the start of a lent buffer; what lies behind them stays. The checks are those
 -- of a table given as numbers, then 14; a refused writing writes no byte.
-use mathlib.Core.List.{List, [], _∷_}
+use mathlib.Core.List.{List, _∷_}
 use Prim.Native.Nat.{ℕ}
 use lib.Dec.{leb}
 use lib.ListN.{length}
 use Rattle.lists.specs.Sums.{joined}
 use Rattle.lists.specs.Overwriting.{writtenOver}
 use Rattle.groups.specs.Groups.{numberBytes}
-use Rattle.arbiter.specs.declared.refusals.Refusal.{Refusal}
-use Rattle.arbiter.specs.declared.table.Table.{Table}
-use Rattle.arbiter.specs.Refusals.{Verdict, faultless, refusal, refusalOf, gate, then, resolve}
-use Rattle.arbiter.specs.Table.{rowNumbers, requestorsOf}
-use Rattle.arbiter.specs.Figures.{admissionVerdict}
-use Rattle.table_bytes.specs.declared.writer.WriteAnswer as code
-use Rattle.table_bytes.specs.declared.writer.WriteAnswer.the-variants as code-answer
+use Rattle.terms.specs.declared.refusals.Refusal.{Refusal}
+use Rattle.terms.specs.Table.{Table, rowNumbers, requestorsOf}
+use Rattle.terms.specs.Refusals.{Verdict, faultless, refusal, refusalOf, gate, then, resolve}
+use Rattle.terms.specs.Figures.{admissionVerdict}
+use Rattle.terms.specs.declared.answers.WriteAnswer as code
+use Rattle.terms.specs.declared.answers.WriteAnswer.the-variants as code-answer
 
 -- D, N, and the four numbers of each place
 unfoldable pub tableNumbers : Table → List ℕ

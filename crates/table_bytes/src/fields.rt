@@ -1,14 +1,14 @@
 // A number at the start of some bytes, and one that is held to its bounds.
-use arbiter::bounds::Bounds;
-use arbiter::refusals::Cause;
-use arbiter::refusals::InputRefusal;
-use arbiter::refusals::Verdict;
 use groups::reading::Reading;
 use groups::reading::read_number;
+use terms::bounds::Bounds;
+use terms::refusals::Cause;
+use terms::refusals::InputRefusal;
+use terms::refusals::Verdict;
 ghost use mathlib.Core.Path.{_≡_};
 ghost use Prim.Native.Nat.{_≤_};
 ghost use lib.ListN.{length};
-ghost use Rattle.arbiter.specs.Table.{boundsOf};
+ghost use Rattle.terms.specs.Table.{boundsOf};
 ghost use Rattle.table_bytes.specs.Reading.{numberRead, fieldRead, fieldOf, takenByField};
 
 // A number, and how many bytes it takes.

@@ -1,7 +1,4 @@
-// A table's bytes: a reader and a writer. The arbiter knows nothing of them.
+// A table's bytes, number by number and row by row. The arbiter knows nothing of them.
 
 pub mod fields;
-mod numbers;
-pub mod reader;
 pub mod rows;
-pub mod writer;

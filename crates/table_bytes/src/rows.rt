@@ -1,11 +1,14 @@
 // One row of a table: n, b, j and L, each read from the bytes that the one before it left.
 use crate::fields::Field;
 use crate::fields::read_field;
-use arbiter::bounds::Bounds;
-use arbiter::refusals::Cause;
-use arbiter::table::Requestor;
-use arbiter::units::Slots;
-use arbiter::units::Transfers;
+use arbiter::bounds::burst_bounds;
+use arbiter::bounds::need_bounds;
+use arbiter::bounds::rate_bounds;
+use arbiter::bounds::within_bounds;
+use terms::place::Requestor;
+use terms::refusals::Cause;
+use terms::units::Slots;
+use terms::units::Transfers;
 ghost use mathlib.Core.Path.{_≡_};
 ghost use Prim.Native.Nat.{_≤_};
 ghost use lib.ListN.{length};
@@ -22,25 +25,25 @@ pub fn read_row(bytes: &[u8], d: u64, p: usize) -> Row
     ensures { λ r. ⌜ rowOf (now (bytes .entry)) r ≡ rowRead d p (now (bytes .entry)) ⌝ }
     ensures there { λ r. ⌜ takenByRow r ≤ length (now (bytes .entry)) ⌝ }
 {
-    let n = match read_field(bytes, Bounds::of_rate(d, p)) {
+    let n = match read_field(bytes, rate_bounds(d, p)) {
         Field::Value(x) => x,
         Field::Refused(c) => return Row::Refused(c),
     };
     let after_n = n.taken;
     let from_b = &bytes[after_n..];
-    let b = match read_field(from_b, Bounds::of_burst(d, p)) {
+    let b = match read_field(from_b, burst_bounds(d, p)) {
         Field::Value(x) => x,
         Field::Refused(c) => return Row::Refused(c),
     };
     let after_b = b.taken;
     let from_j = &from_b[after_b..];
-    let j = match read_field(from_j, Bounds::of_need(p)) {
+    let j = match read_field(from_j, need_bounds(p)) {
         Field::Value(x) => x,
         Field::Refused(c) => return Row::Refused(c),
     };
     let after_j = j.taken;
     let from_l = &from_j[after_j..];
-    let l = match read_field(from_l, Bounds::of_within(p)) {
+    let l = match read_field(from_l, within_bounds(p)) {
         Field::Value(x) => x,
         Field::Refused(c) => return Row::Refused(c),
     };

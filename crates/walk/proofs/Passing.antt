@@ -1,15 +1,15 @@
 -- Accounts that are passed over from a place on: one place's turn, the end, and what `after` of the rule leaves behind the granted place.
 -- Assumes nothing.
-use mathlib.Core.Path.{_≡_, refl, ap, sym, _∙_}
+use mathlib.Core.Path.{_≡_, refl, ap, _∙_}
 use mathlib.Core.List.{List, [], _∷_}
 use Prim.Native.Nat.{ℕ, zero, suc, _+_, _≤_, _<_}
 use native.Mathlib.Numerals.{add-one}
 use native.Mathlib.Omega.{arith}
 use lib.ListN.{length, set, take}
-use Rattle.arbiter.specs.declared.table.Requestor.{Requestor}
-use Rattle.arbiter.specs.declared.state.Account.{Account}
-use Rattle.arbiter.specs.Table.{requestorAt}
-use Rattle.arbiter.specs.State.{accountAt}
+use Rattle.terms.specs.declared.place.Requestor.{Requestor}
+use Rattle.terms.specs.declared.place.Account.{Account}
+use Rattle.terms.specs.Table.{requestorAt}
+use Rattle.terms.specs.State.{accountAt}
 use Rattle.rule.specs.declared.rule.Grant.{Grant}
 use Rattle.rule.specs.declared.rule.Grant.the-variants.{Nobody, Place}
 use Rattle.rule.specs.Rule.{served, passed, after}

@@ -4,9 +4,9 @@ use mathlib.Core.List.{List, [], _∷_}
 use Prim.Native.Nat.{ℕ, zero, suc, _+_, _≤_, _<_, _^_}
 use mathlib.Core.Path.{_≡_}
 use lib.ListN.{length, take}
-use Rattle.arbiter.specs.declared.table.Requestor.{Requestor}
-use Rattle.arbiter.specs.declared.state.Account.{Account}
-use Rattle.arbiter.specs.declared.state.Arbiter.{Arbiter}
+use Rattle.terms.specs.declared.place.Requestor.{Requestor}
+use Rattle.terms.specs.declared.place.Account.{Account}
+use Rattle.terms.specs.State.{State}
 use Rattle.rule.specs.declared.rule.Grant.{Grant}
 use Rattle.rule.specs.Rule.{firstEligible, passed, after}
 use Rattle.layout.specs.Words.{wordCount, roomOf, rowIn, accountIn, withAccounts}
@@ -23,10 +23,10 @@ pub record Roomy (words : List ℕ) (from n : ℕ) : Type 0 where
   pub sums : (p : ℕ) → from ≤ p → p < n → accountIn words p .credit + rowIn words p .rate < 2 ^ 64
 
 -- whom a slot grants among the first n places, and the state when they all had their turn
-abbrev pub grantAmong : (d n : ℕ) → Arbiter → Grant
+abbrev pub grantAmong : (d n : ℕ) → State → Grant
 grantAmong d n s = firstEligible d (take n (s .table .requestors)) (s .accounts)
 
-abbrev pub slotAmong : (d n : ℕ) → Grant → Arbiter → Arbiter
+abbrev pub slotAmong : (d n : ℕ) → Grant → State → State
 slotAmong d n g s = withAccounts s (after d g (take n (s .table .requestors)) (s .accounts))
 
 -- the accounts where every place from place p on is passed over, and those before it are left

@@ -1,16 +1,16 @@
 // One place's turn in a slot: whether it is eligible, and what serving it or passing it over makes of its account.
-use arbiter::state::Account;
 use layout::words::account;
 use layout::words::put_account;
 use layout::words::requestor;
 use rule::rule::is_eligible;
 use rule::rule::pass;
 use rule::rule::serve;
+use terms::place::Account;
 ghost use mathlib.Core.Path.{_≡_};
 ghost use mathlib.Core.Bool.{true};
 ghost use Prim.Native.Nat.{_≤_, _<_};
 ghost use lib.ListN.{take};
-ghost use Rattle.arbiter.specs.State.{backlog};
+ghost use Rattle.terms.specs.State.{backlog};
 ghost use Rattle.rule.specs.Rule.{eligible, served, passed};
 ghost use Rattle.layout.specs.Words.{rowIn, accountIn, putAccount, stateOf, withAccounts};
 ghost use Rattle.walk.specs.Walk.{Turn, Roomy, passedOver};

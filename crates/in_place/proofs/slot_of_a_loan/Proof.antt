@@ -41,14 +41,16 @@ use denote.Triple.Clauses.{ensured, lasts}
 use denote.Triple.Walked.{says, Stays, stay-none, walkOf, goes-none, Walks, ends-at, walked, walk-meets}
 use denote.Exit.{yes}
 use Rattle.arbiter.specs.declared.state.Arbiter.{Arbiter}
-use Rattle.calls.specs.declared.slot.SlotAnswer.{SlotAnswer}
+use Rattle.arbiter.specs.ByValue.{held}
+use Rattle.terms.specs.declared.answers.SlotAnswer.{SlotAnswer}
 use Rattle.calls.specs.declared.slot.SlotResult.{SlotResult}
-use Rattle.arbiter.specs.Limits.{maxPlaces}
-use Rattle.calls.specs.Calls.{slot, called, slotResultOf}
+use Rattle.terms.specs.Limits.{maxPlaces}
+use Rattle.rule.specs.Calls.{slot, called}
+use Rattle.calls.specs.ByValue.{slotResultOf}
 use Rattle.arbiter.proofs.state.Arbiter as T
 use Rattle.arbiter.proofs.state.Arbiter.Laws as T′
-use Rattle.calls.proofs.slot.SlotAnswer as N
-use Rattle.calls.proofs.slot.SlotAnswer.Laws as N′
+use Rattle.terms.proofs.answers.SlotAnswer as N
+use Rattle.terms.proofs.answers.SlotAnswer.Laws as N′
 use Rattle.calls.proofs.slot.SlotResult as E
 use Rattle.calls.proofs.slot.SlotResult.Laws as E′
 use Rattle.in_place.proofs.slot_in_place as callee
@@ -107,7 +109,7 @@ module _ {M : Type 1} (𝓤 : URA M) (H : Heap 𝓤) (A : Atoms 𝓤) (W : Given
   abbrev Post : Val → SProp 𝓤
   Post = walkOf 𝓤 H A self.ended stayed (self.clauses 𝓤 H A at-mem run) .post ((tt, tt, tt, (h, tt), (val h ∷ [], tt)), tt)
 
-  exits : (r : SlotResult) → slotResultOf r ≡ called maxPlaces h slot → Is E.the-row r (val-r r ∷ []) → ent 𝓤 (sem 𝓤 H A (T.the-row .own h (val h ∷ []))) (Post (val-r r))
+  exits : (r : SlotResult) → slotResultOf r ≡ called maxPlaces (held h) slot → Is E.the-row r (val-r r ∷ []) → ent 𝓤 (sem 𝓤 H A (T.the-row .own h (val h ∷ []))) (Post (val-r r))
   exits r e is =
       qed W (‵ (T.the-row .own h (val h ∷ [])) ∷ []) ∵
       suffices ! _ (ends-at 𝓤 H A self.ended stayed (self.clauses 𝓤 H A at-mem run) W ((tt, tt, tt, (h, tt), (val h ∷ [], tt)), tt) (val-r r) r (tt, tt) (tt, tt)) $ says ! e $
@@ -142,8 +144,8 @@ module _ {M : Type 1} (𝓤 : URA M) (H : Heap 𝓤) (A : Atoms 𝓤) (W : Given
         calls-at ! fm (Callee 𝓤 H A at-mem run) known (to-callee α l₂ γ) (and-then ! (load ! (from ! (stop !)) (look ! 4 refl)) (no-more !)) (λ v.
         use1 W (later (some (λ (a : SlotAnswer). ((‵ (flft (α ∷ []) fullShare) ⊛ ‵ ftrue) ⊛ ‵ (N.the-row .own a (v ∷ []))) ⊛ raw (ensured 𝓤 H A callee.ended (callee.clauses 𝓤 H A at-mem run) (α ∷ [], tt) (x l₂ γ, tt) tt a)))) (id⊢ 𝓤 _) $ await ! tt $ pick ! (λ a.
         -- what the thin form ensures, at some last state
-        split ! $ move ! (1 ∷ []) $ use1 W (some (λ (ws : Arbiter × Unit {0}). ‵ (lasts callee.ended (α ∷ [], tt) (x l₂ γ, tt) ws) ⊛ raw (fact 𝓤 (slotResultOf (result (ws .0) a) ≡ called maxPlaces h slot)))) (id⊢ 𝓤 _) $ pick ! (λ ws.
-        split ! $ move ! (1 ∷ []) $ heard ! (slotResultOf (result (ws .0) a) ≡ called maxPlaces h slot) (λ e. fsplit ! $ move ! (2 ∷ []) $ split ! $ move ! (1 ∷ []) $
+        split ! $ move ! (1 ∷ []) $ use1 W (some (λ (ws : Arbiter × Unit {0}). ‵ (lasts callee.ended (α ∷ [], tt) (x l₂ γ, tt) ws) ⊛ raw (fact 𝓤 (slotResultOf (result (ws .0) a) ≡ called maxPlaces (held h) slot)))) (id⊢ 𝓤 _) $ pick ! (λ ws.
+        split ! $ move ! (1 ∷ []) $ heard ! (slotResultOf (result (ws .0) a) ≡ called maxPlaces (held h) slot) (λ e. fsplit ! $ move ! (2 ∷ []) $ split ! $ move ! (1 ∷ []) $
         peeks ! N.the-row (Is N.the-row) (shows 𝓤 H A N.the-row) a (v ∷ []) (λ is-a. drop ! $
         -- [the token; the last value; true; the lender's part; room for _5; …; _4; …; room for _3; …; of _2; _1; …; room for _0; …; true; what the parameter owns]
         land ! (from ! (stop !)) (init ! 8 refl (EL.lawful N.the-type N′.the-laws 𝓤 H A W tt .typed a _ is-a .0)) $

@@ -3,14 +3,15 @@ use Prim.Native.Nat.{_-_}
 use native.Mathlib.Omega.{arith}
 use borrow.Author.Needs.{needs}
 use lib.ListN.{length-set}
-use Rattle.arbiter.specs.Limits.{maxPlaces}
+use Rattle.terms.specs.Limits.{maxPlaces}
+use Rattle.arbiter.specs.ByValue.{held}
 use Rattle.replay.proofs.Replays.{Standing, standing-first, standing-more, standing-last}
 use Rattle.replay.proofs.make_calls.Statement.{statement}
 use Rattle.replay.proofs.make_calls.Tie as tie
 
 -- after i calls the state and the lent answers are those of the run of the first i calls
 abbrev Inv-loop : tie.InvT-loop
-Inv-loop calls answers₀ n state₀ i₀ answers state i = Standing maxPlaces calls answers₀ state₀ n answers state i
+Inv-loop calls answers₀ n state₀ i₀ answers state i = Standing maxPlaces calls answers₀ (held state₀) n answers (held state) i
 
 -- the calls that are left
 abbrev μ-loop : tie.MeasureT-loop
@@ -88,7 +89,7 @@ loop-again c =
     let turn = c .before .before .before .before .before .before in
     let l = turn .before .loop in
     let made = c .before .before .make-call in
-    standing-more maxPlaces (a .calls .now) (a .answers .now) (a .s) _ (l .answers) (l .state) (l .i) (made .result) (l .inv) (turn .loop-test .taken) (made .ensures)
+    standing-more maxPlaces (a .calls .now) (a .answers .now) (held (a .s)) _ (l .answers) (held (l .state)) (l .i) (made .result) (l .inv) (turn .loop-test .taken) (made .ensures)
 
 same-length : tie.Need-same-length Inv-loop μ-loop
 same-length c = c .before .loop .inv .same-length

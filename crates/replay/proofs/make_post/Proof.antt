@@ -1,7 +1,7 @@
 -- `replay::make_post` meets its contract. By the case of the post's answer; no refusal of a call names a place. Assumes nothing.
 use mathlib.Core.Path.{refl}
 use borrow.Author.Needs.{needs}
-use Rattle.arbiter.specs.Answers.{accepted}
+use Rattle.terms.specs.Answers.{accepted}
 use Rattle.replay.specs.Replay.{answerWords}
 use Rattle.replay.proofs.Replays.{makes}
 use Rattle.replay.proofs.make_post.Statement.{statement}

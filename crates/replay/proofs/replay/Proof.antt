@@ -1,6 +1,7 @@
 -- `replay::replay` meets its contract. A refused start makes no call; an accepted one makes them all. Assumes nothing.
 use borrow.Author.Needs.{needs}
-use Rattle.arbiter.specs.Limits.{maxPlaces}
+use Rattle.terms.specs.Limits.{maxPlaces}
+use Rattle.arbiter.specs.ByValue.{held, given}
 use Rattle.replay.proofs.Replays.{replay-refused, replay-started}
 use Rattle.replay.proofs.replay.Statement.{statement}
 use Rattle.replay.proofs.replay.Tie as tie
@@ -21,7 +22,7 @@ returns : tie.Need-returns
 returns c =
     let a = c .before .before .before .before .before .before .args in
     let begun = c .before .before .before .start in
-    replay-refused maxPlaces (a .t) (a .first .0) (a .calls .now) (a .answers .now) (begun .result) (begun .ensures) _ (c .enum-told .given .1)
+    replay-refused maxPlaces (given (a .t)) (a .first .0) (a .calls .now) (a .answers .now) (begun .result) (begun .ensures) _ (c .enum-told .given .1)
 
 same-length : tie.Need-same-length
 same-length c = search needs
@@ -31,7 +32,7 @@ returns-2 c =
     let a = c .before .before .before .before .before .before .before .before .before .before .args in
     let begun = c .before .before .before .before .before .before .before .start in
     let made = c .before .before .make-calls in
-    replay-started maxPlaces (a .t) (a .first .0) (a .calls .now) (a .answers .now) (begun .result) (begun .ensures) (made .result) _ (c .before .before .before .before .enum-told2 .given .1) (made .ensures)
+    replay-started maxPlaces (given (a .t)) (a .first .0) (a .calls .now) (a .answers .now) (begun .result) (begun .ensures) (held (made .result)) _ (c .before .before .before .before .enum-told2 .given .1) (made .ensures)
 
 pub replay-spec : {M : Type 1} → statement M
 replay-spec =

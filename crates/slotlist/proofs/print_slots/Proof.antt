@@ -7,6 +7,7 @@ use borrow.Author.Needs.{needs}
 use borrow.Rule.Slice.PartAt.{part-to-end}
 use lib.ListN.{length, take, drop, length-drop}
 use lib.Seq.{length-take-le}
+use Rattle.arbiter.specs.ByValue.{held}
 use Rattle.in_a_row.proofs.Progress.{more-takes, no-room}
 use Rattle.slotlist.proofs.print_slots.Statement.{statement}
 use Rattle.slotlist.proofs.print_slots.Tie as tie
@@ -48,7 +49,7 @@ part-left-end : tie.Need-part-left-end Inv-loop μ-loop
 part-left-end c = search needs
 
 loop-less : tie.Need-loop-less Inv-loop μ-loop
-loop-less c = let taken = c .before .before .told .given .0 .1 .0 in let some : 1 ≤ taken = more-takes (c .before .before .before .before .before .before .before .before .before .loop .state) (c .before .before .before .before .before .before .before .before .before .loop .left .now) (take (length (c .before .before .before .before .before .before .before .before .before .loop .page) - c .before .before .before .before .before .before .before .before .before .loop .at) (drop (c .before .before .before .before .before .before .before .before .before .loop .at) (c .before .before .before .before .before .before .before .before .before .loop .page))) _ _ (c .before .before .before .before .before .before .before .step .ensures .0) _ taken (c .before .before .told .given .1) in rw (part-to-end (c .before .before .before .before .before .before .before .before .before .loop .left .now) taken, length-drop taken (c .before .before .before .before .before .before .before .before .before .loop .left .now)) (omega (arith, some, (rw (c .before .before .told .given .1) at (c .before .before .before .before .before .before .before .step .ensures .1 .0))))
+loop-less c = let taken = c .before .before .told .given .0 .1 .0 in let some : 1 ≤ taken = more-takes (held (c .before .before .before .before .before .before .before .before .before .loop .state)) (c .before .before .before .before .before .before .before .before .before .loop .left .now) (take (length (c .before .before .before .before .before .before .before .before .before .loop .page) - c .before .before .before .before .before .before .before .before .before .loop .at) (drop (c .before .before .before .before .before .before .before .before .before .loop .at) (c .before .before .before .before .before .before .before .before .before .loop .page))) _ _ (c .before .before .before .before .before .before .before .step .ensures .0) _ taken (c .before .before .told .given .1) in rw (part-to-end (c .before .before .before .before .before .before .before .before .before .loop .left .now) taken, length-drop taken (c .before .before .before .before .before .before .before .before .before .loop .left .now)) (omega (arith, some, (rw (c .before .before .told .given .1) at (c .before .before .before .before .before .before .before .step .ensures .1 .0))))
 
 loop-again : tie.Need-loop-again Inv-loop μ-loop
 loop-again c = (search needs, omega (arith, (rw (c .before .before .told .given .1, part-to-end (c .before .before .before .before .before .before .before .before .before .loop .page) (c .before .before .before .before .before .before .before .before .before .loop .at), length-drop (c .before .before .before .before .before .before .before .before .before .loop .at) (c .before .before .before .before .before .before .before .before .before .loop .page)) at (c .before .before .before .before .before .before .before .step .ensures .1 .1)), c .before .before .before .before .before .before .before .before .before .loop .inv .1))

@@ -3,10 +3,10 @@ use mathlib.Core.Path.{_≡_, ap, _∙_}
 use native.Mathlib.Omega.{arith}
 use borrow.Author.Tests.{le-leb, lt-leb}
 use Rattle.lists.specs.Sums.{total}
-use Rattle.arbiter.specs.Limits.{maxPlaces}
-use Rattle.arbiter.specs.Refusals.{gate}
-use Rattle.arbiter.specs.Table.{rate, requestorsOf, rateSumVerdict}
-use Rattle.arbiter.specs.Figures.{ratesAbove}
+use Rattle.terms.specs.Limits.{maxPlaces}
+use Rattle.terms.specs.Refusals.{gate}
+use Rattle.terms.specs.Table.{rate, requestorsOf, rateSumVerdict}
+use Rattle.terms.specs.Figures.{ratesAbove}
 use Rattle.admission.specs.Checked.{tableIn, rowsIn}
 use Rattle.admission.proofs.Rows.{denominator-word, count-word, head-there, within-room}
 use Rattle.admission.proofs.checks.check_rate_sum.Statement.{statement}

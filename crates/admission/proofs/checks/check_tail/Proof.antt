@@ -6,8 +6,8 @@ use native.Mathlib.Omega.{arith}
 use borrow.Author.Tests.{not-true, not-false}
 use lib.ListN.{drop}
 use Rattle.lists.specs.Sums.{every}
-use Rattle.arbiter.specs.Table.{requestorClear}
-use Rattle.arbiter.specs.Limits.{maxPlaces}
+use Rattle.terms.specs.Table.{requestorClear}
+use Rattle.terms.specs.Limits.{maxPlaces}
 use Rattle.layout.specs.Words.{roomOf, rowIn}
 use Rattle.admission.specs.Checked.{rowsIn}
 use Rattle.admission.proofs.Rows.{count-word, head-there, within-room}

@@ -1,17 +1,9 @@
-use mathlib.Core.Path.{_≡_, refl, ap, ap₂, sym, _∙_}
+use mathlib.Core.Path.{refl, _∙_}
 use native.Mathlib.Omega.{arith}
-use Rattle.arbiter.specs.Limits.{maxPlaces}
-use Rattle.admission.specs.Checked.{tableIn}
-use Rattle.admission.proofs.Rows.{denominator-word, Placed, placed, left-there, parts, figure}
+use Rattle.terms.specs.Limits.{maxPlaces}
+use Rattle.admission.proofs.Rows.{denominator-word, placed, left-there, parts, figure}
 use Rattle.admission.proofs.figures.finish.Statement.{statement}
 use Rattle.admission.proofs.figures.finish.Tie as tie
-use Rattle.admission.proofs.figures.finish.Reads as reads
-use Rattle.admission.proofs.figures.finish.Lts as lts
-use Rattle.admission.proofs.figures.finish_of.Reads as finish-of-reads
-use Rattle.admission.proofs.sums.bursts_above.Reads as bursts-above-reads
-use Rattle.admission.proofs.sums.rates_above.Reads as rates-above-reads
-use Rattle.layout.proofs.words.denominator.Reads as denominator-reads
-use Rattle.layout.proofs.words.rate.Reads as rate-reads
 
 denominator-requires : tie.Need-denominator-requires
 denominator-requires c κs = let a = c .before .args in let w = a .words .now in let f = placed maxPlaces w (a .p) (c .before .pre .0) (c .before .pre .1) in omega (arith, f .there)

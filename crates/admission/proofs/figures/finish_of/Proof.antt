@@ -1,13 +1,9 @@
 use native.Mathlib.Nat.{mul-le-mul}
 use native.Mathlib.Omega.{arith}
-use mathlib.Core.Path.{ap₂, _∙_}
+use mathlib.Core.Path.{ap₂}
 use Prim.Native.Nat.{_+_}
-use borrow.Author.Needs.{needs}
 use Rattle.admission.proofs.figures.finish_of.Statement.{statement}
 use Rattle.admission.proofs.figures.finish_of.Tie as tie
-use Rattle.admission.proofs.figures.finish_of.Reads as reads
-use Rattle.admission.proofs.figures.finish_of.Lts as lts
-use Rattle.admission.proofs.figures.rounded_up.Reads as rounded-up-reads
 
 rounded-up-requires : tie.Need-rounded-up-requires
 rounded-up-requires c κs = (c .pre .left-least, omega (arith, c .pre .bursts-most, c .pre .left-most))

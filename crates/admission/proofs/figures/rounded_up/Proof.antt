@@ -4,7 +4,7 @@ use Prim.Native.Nat.{_+_, _-_}
 use native.Mathlib.Omega.{arith}
 use native.Mathlib.Nat.{div-le-self}
 use borrow.Author.Needs.{needs}
-use Rattle.arbiter.specs.Figures.{roundedUp}
+use Rattle.terms.specs.Figures.{roundedUp}
 use Rattle.admission.proofs.figures.rounded_up.Statement.{statement}
 use Rattle.admission.proofs.figures.rounded_up.Tie as tie
 

@@ -3,8 +3,8 @@
 use mathlib.Core.Path.{_≡_, sym, ap₂, _∙_}
 use Prim.Native.Nat.{_-_}
 use native.Mathlib.Omega.{arith}
-use Rattle.arbiter.specs.Limits.{maxPlaces}
-use Rattle.arbiter.specs.Figures.{waitOf}
+use Rattle.terms.specs.Limits.{maxPlaces}
+use Rattle.terms.specs.Figures.{waitOf}
 use Rattle.admission.specs.Checked.{tableIn}
 use Rattle.admission.proofs.Rows.{denominator-word, Placed, placed}
 use Rattle.admission.proofs.figures.wait.Statement.{statement}

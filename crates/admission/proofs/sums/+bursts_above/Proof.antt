@@ -6,7 +6,7 @@ use native.Mathlib.Omega.{arith}
 use borrow.Fn.Kinds.{In}
 use borrow.Fn.PlainCycle.{Measures, is, falls, and}
 use Rattle.lists.specs.Sums.{total}
-use Rattle.arbiter.specs.Table.{burst}
+use Rattle.terms.specs.Table.{burst}
 use Rattle.layout.proofs.words.burst.Reads as burst-reads
 use Rattle.admission.proofs.Rows.{sum-next}
 use Rattle.admission.proofs.sums.bursts_above.Reads as bursts-above

@@ -6,7 +6,7 @@ use native.Mathlib.Omega.{arith}
 use borrow.Fn.Kinds.{In}
 use borrow.Fn.PlainCycle.{Measures, is, falls, and}
 use Rattle.lists.specs.Sums.{total}
-use Rattle.arbiter.specs.Table.{rate}
+use Rattle.terms.specs.Table.{rate}
 use Rattle.layout.proofs.words.rate.Reads as rate-reads
 use Rattle.admission.proofs.Rows.{sum-next}
 use Rattle.admission.proofs.sums.rates_above.Reads as rates-above

@@ -1,7 +1,7 @@
 -- `arbiter::input::check_input` meets its contract. One gate. Assumes nothing.
 use borrow.Author.Tests.{lt-leb, le-leb}
-use Rattle.arbiter.specs.Refusals.{gate}
-use Rattle.arbiter.specs.Input.{inputVerdict}
+use Rattle.terms.specs.Refusals.{gate}
+use Rattle.terms.specs.Input.{inputVerdict}
 use Rattle.arbiter.proofs.input.check_input.Statement.{statement}
 use Rattle.arbiter.proofs.input.check_input.Tie as tie
 

@@ -7,15 +7,15 @@ use borrow.Author.Tests.{leb-true}
 use borrow.Author.Needs.{needs}
 use lib.ListN.{length}
 use mir.Facts.{toZ-ofZ}
-use Rattle.arbiter.specs.Limits.{maxPlaces, maxInput}
-use Rattle.arbiter.specs.Refusals.{verdictOf, faultless, then}
-use Rattle.arbiter.specs.Table.{rate}
-use Rattle.arbiter.specs.State.{placeVerdict}
-use Rattle.arbiter.specs.Input.{inputVerdict}
-use Rattle.arbiter.proofs.Checks.{gate-open, then-open}
+use Rattle.terms.specs.Limits.{maxPlaces, maxInput}
+use Rattle.terms.specs.Refusals.{verdictOf, faultless, then}
+use Rattle.terms.specs.Table.{rate}
+use Rattle.terms.specs.State.{placeVerdict}
+use Rattle.terms.specs.Input.{inputVerdict}
+use Rattle.terms.proofs.Checks.{gate-open, then-open}
 use Rattle.lead_parts.proofs.Counts.{bytes-most}
 use Rattle.lead_parts.proofs.Signed.{product-most, difference-fits}
-use Rattle.leads.specs.Lead.{leadVerdict, leadOf, leadAsked}
+use Rattle.lead_parts.specs.Lead.{leadVerdict, leadOf, leadAsked}
 use Rattle.layout.specs.Words.{roomOf, stateOf}
 use Rattle.admission.proofs.Rows.{denominator-word, head-there, Placed}
 use Rattle.asking.proofs.Asked.{asked-place, asked-row}

@@ -1,9 +1,9 @@
 -- `asking::look::account_words` meets its contract. A place that passes 23 and 11 has its account among the words. Assumes nothing.
 use mathlib.Core.Path.{_≡_, ap, sym, _∙_}
 use borrow.Author.Needs.{needs}
-use Rattle.arbiter.specs.Limits.{maxPlaces}
-use Rattle.arbiter.specs.Refusals.{verdictOf, faultless}
-use Rattle.arbiter.specs.State.{placeVerdict}
+use Rattle.terms.specs.Limits.{maxPlaces}
+use Rattle.terms.specs.Refusals.{verdictOf, faultless}
+use Rattle.terms.specs.State.{placeVerdict}
 use Rattle.layout.specs.Words.{roomOf, stateOf}
 use Rattle.asking.specs.Look.{accountAsked}
 use Rattle.asking.proofs.Asked.{asked-place, asked-account}

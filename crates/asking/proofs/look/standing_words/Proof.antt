@@ -2,7 +2,7 @@
 use mathlib.Core.Path.{sym, _∙_}
 use borrow.Author.Tests.{not-true, not-false}
 use borrow.Author.Needs.{needs}
-use Rattle.arbiter.specs.Limits.{maxPlaces}
+use Rattle.terms.specs.Limits.{maxPlaces}
 use Rattle.layout.specs.Words.{wordsState}
 use Rattle.admission.proofs.Rows.{head-there}
 use Rattle.asking.proofs.Asked.{standing-unsound, standing-told}

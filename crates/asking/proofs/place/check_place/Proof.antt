@@ -4,8 +4,8 @@ use mathlib.Core.Bool.{true}
 use native.Mathlib.Omega.{arith}
 use borrow.Author.Tests.{not-true, not-false}
 use borrow.Author.Needs.{needs}
-use Rattle.arbiter.specs.Limits.{maxPlaces}
-use Rattle.arbiter.specs.State.{sound}
+use Rattle.terms.specs.Limits.{maxPlaces}
+use Rattle.terms.specs.State.{sound}
 use Rattle.layout.specs.Words.{roomOf, stateOf}
 use Rattle.admission.proofs.Rows.{count-word, head-there}
 use Rattle.asking.proofs.Asked.{place-unsound, no-such-place, place-passes}

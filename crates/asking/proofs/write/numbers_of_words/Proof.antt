@@ -6,8 +6,8 @@ use native.Mathlib.Omega.{arith}
 use lib.ListN.{replicate}
 use Rattle.lists.specs.Sums.{joined}
 use Rattle.lists.specs.Overwriting.{writtenOver}
-use Rattle.arbiter.specs.Limits.{maxPlaces, maxDenominator}
-use Rattle.arbiter.proofs.Checks.{Row, fair}
+use Rattle.terms.specs.Limits.{maxPlaces, maxDenominator}
+use Rattle.terms.proofs.Checks.{Row, fair}
 use Rattle.table_bytes.proofs.Writings.{numbersTo, row-stored, rows-stored}
 use Rattle.layout.specs.Words.{roomOf}
 use Rattle.layout.proofs.RoundTrip.{right}

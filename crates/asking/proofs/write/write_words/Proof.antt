@@ -1,63 +1,58 @@
--- `asking::write::write_words` meets its contract. Check 7 first, then the room for the bytes; the numbers are put only where both pass.
+-- `asking::write::write_words` meets its contract. By what admission found, then the room for the bytes; the numbers are put only
+-- where both pass.
 -- Assumes nothing.
 use mathlib.Core.Path.{_≡_, ap, sym, _∙_}
 use Prim.Native.Nat.{_+_, _-_, _*_, _≤_}
 use native.Mathlib.Omega.{arith}
 use borrow.Author.Needs.{needs}
 use lib.ListN.{length, take, length-take}
-use Rattle.arbiter.specs.Limits.{maxPlaces}
-use Rattle.arbiter.specs.Refusals.{faultless, verdictOf}
-use Rattle.arbiter.specs.Figures.{admissionVerdict}
+use Rattle.terms.specs.Limits.{maxPlaces}
+use Rattle.terms.specs.Refusals.{faultless, verdictOf}
+use Rattle.terms.specs.Figures.{admissionVerdict}
+use Rattle.terms.proofs.Checks.{admitted}
 use Rattle.table_bytes.specs.Writing.{tableNumbers}
 use Rattle.table_bytes.proofs.Writings.{Lent, lent, write-refused, write-short, write-whole}
 use Rattle.layout.specs.Words.{roomOf}
 use Rattle.layout.proofs.RoundTrip.{right}
 use Rattle.admission.specs.Checked.{tableIn, Checked}
 use Rattle.admission.proofs.Rows.{count-word, rows-length, head-there}
-use Rattle.asking.proofs.Asked.{sound-checked, finishes-left}
 use Rattle.asking.proofs.write.write_words.Statement.{statement}
 use Rattle.asking.proofs.write.write_words.Tie as tie
 
--- a sound state's table has passed checks 1 to 6, so that 7 is all of admission
-checked : (c : tie.Start) → Checked maxPlaces (c .args .words .now)
-checked c = sound-checked maxPlaces _ (c .pre .0) (c .pre .1)
+ok : (c : tie.After-enum-told) → let w = c .before .before .before .before .args .words .now in admissionVerdict (roomOf w) (tableIn w) ≡ faultless
+ok c = sym (c .before .before .before .before .pre .1) ∙ ap verdictOf (c .enum-told .given .1)
 
-found : (c : tie.After-check-finishes) → let w = c .before .before .before .args .words .now in verdictOf (c .check-finishes .result) ≡ admissionVerdict (roomOf w) (tableIn w)
-found c = c .check-finishes .ensures ∙ sym (finishes-left _ _ (checked (c .before .before .before) .passes))
-
-ok : (c : tie.After-enum-told) → let w = c .before .before .before .before .before .args .words .now in admissionVerdict (roomOf w) (tableIn w) ≡ faultless
-ok c = sym (found (c .before .before)) ∙ ap verdictOf (c .enum-told .given .1)
+-- so the table passes checks 1 to 6 too
+checked : (c : tie.After-enum-told) → Checked maxPlaces (c .before .before .before .before .args .words .now)
+checked c = record { right = c .before .before .before .before .pre .0; passes = admitted _ _ (ok c) .passes }
 
 -- the numbers that are lent are the table's
-numbers : (c : tie.After-numbers-of-words) → let w = c .before .before .before .before .before .before .args .words .now in Lent (roomOf w) (tableIn w) (c .numbers-of-words .result)
-numbers c = let s = c .before .before .before .before .before .before in lent _ _ _ _ (rows-length (s .args .words .now)) (checked s .passes) (c .numbers-of-words .ensures)
+numbers : (c : tie.After-numbers-of-words) → let w = c .before .before .before .before .before .args .words .now in Lent (roomOf w) (tableIn w) (c .numbers-of-words .result)
+numbers c = let s = c .before .before .before .before .before in lent _ _ _ _ (rows-length (s .args .words .now)) (checked (c .before) .passes) (c .numbers-of-words .ensures)
 
-the-count : (c : tie.After-count) → c .count .result ≡ tableIn (c .before .before .before .before .before .before .before .args .words .now) .count
-the-count c = c .count .ensures ∙ count-word (c .before .before .before .before .before .before .before .args .words .now)
+the-count : (c : tie.After-count) → c .count .result ≡ tableIn (c .before .before .before .before .before .before .args .words .now) .count
+the-count c = c .count .ensures ∙ count-word (c .before .before .before .before .before .before .args .words .now)
 
 few : (c : tie.After-count) → c .count .result ≤ maxPlaces
-few c = let s = c .before .before .before .before .before .before .before in omega (arith, the-count c, numbers (c .before) .few, right maxPlaces (s .args .words .now) (s .pre .0) .room-most)
+few c = let s = c .before .before .before .before .before .before in omega (arith, the-count c, numbers (c .before) .few, right maxPlaces (s .args .words .now) (s .pre .0) .room-most)
 
 inside : (c : tie.After-count) → 2 + 4 * c .count .result ≤ length (c .before .numbers-of-words .result)
 inside c = rw (the-count c) (numbers (c .before) .inside)
 
-used-are : (c : tie.After-count) → take (2 + 4 * c .count .result - 0) (c .before .numbers-of-words .result) ≡ tableNumbers (tableIn (c .before .before .before .before .before .before .before .args .words .now))
+used-are : (c : tie.After-count) → take (2 + 4 * c .count .result - 0) (c .before .numbers-of-words .result) ≡ tableNumbers (tableIn (c .before .before .before .before .before .before .args .words .now))
 used-are c = rw (the-count c) (numbers (c .before) .same)
 
-check-finishes-requires : tie.Need-check-finishes-requires
-check-finishes-requires c κs = checked (c .before .before)
-
-enum-known-finishes : tie.Need-enum-known-finishes
-enum-known-finishes c = search needs
+enum-known-admission : tie.Need-enum-known-admission
+enum-known-admission c = search needs
 
 enum-told : tie.Need-enum-told
 enum-told c = search needs
 
 numbers-of-words-requires : tie.Need-numbers-of-words-requires
-numbers-of-words-requires c κs = checked (c .before .before .before .before .before)
+numbers-of-words-requires c κs = checked c
 
 count-requires : tie.Need-count-requires
-count-requires c κs = head-there _ maxPlaces (c .before .before .before .before .before .before .pre .0)
+count-requires c κs = head-there _ maxPlaces (c .before .before .before .before .before .pre .0)
 
 mul-used : tie.Need-mul-used
 mul-used c = omega (arith, few c)
@@ -95,7 +90,7 @@ put-numbers-requires : tie.Need-put-numbers-requires
 put-numbers-requires c κs = search needs
 
 returns-2 : tie.Need-returns-2
-returns-2 c = write-refused _ _ _ _ _ (found (c .before .before .before)) (c .before .finishes .given .1)
+returns-2 c = write-refused _ _ _ _ _ (c .before .before .before .before .before .pre .1) (c .before .admission .given .1)
 
 same-length : tie.Need-same-length
 same-length c = search needs
@@ -110,8 +105,7 @@ pub write-words-spec : {M : Type 1} → statement M
 write-words-spec =
     tie.close
     (tie.spec
-    check-finishes-requires
-    enum-known-finishes
+    enum-known-admission
     enum-told
     numbers-of-words-requires
     count-requires

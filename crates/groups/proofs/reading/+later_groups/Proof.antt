@@ -1,11 +1,10 @@
 -- `groups::reading::later_groups` meets its contract. The byte at hand, and then the reading of the rest of the bytes. The measure is
 -- how many groups may still come. Assumes nothing.
 use mathlib.Core.Path.{refl, sym}
-use Prim.Native.Nat.{_-_}
+use Prim.Native.Nat.{ℕ, _<_}
 use native.Mathlib.Omega.{arith}
 use borrow.Author.Needs.{needs}
 use Rattle.groups.proofs.Readings.{later-none, later-ended, later-last, later-more, later-few}
-use Prim.Native.Nat.{ℕ, _<_}
 use borrow.Fn.Kinds.{In}
 use borrow.Fn.PlainCycle.{Measures, is, falls, and}
 use Rattle.groups.proofs.reading.later_groups.Reads as later-groups

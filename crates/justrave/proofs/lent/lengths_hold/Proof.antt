@@ -2,9 +2,6 @@ use mathlib.Core.Path.{sym, _∙_}
 use borrow.Author.Needs.{needs}
 use Rattle.justrave.proofs.lent.lengths_hold.Statement.{statement}
 use Rattle.justrave.proofs.lent.lengths_hold.Tie as tie
-use Rattle.justrave.proofs.lent.lengths_hold.Reads as reads
-use Rattle.justrave.proofs.lent.lengths_hold.Lts as lts
-use Rattle.layout.proofs.words.length_is_right.Reads as length-is-right-reads
 
 length-is-right-requires : tie.Need-length-is-right-requires
 length-is-right-requires c κs = search needs

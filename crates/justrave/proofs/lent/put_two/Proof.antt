@@ -2,8 +2,6 @@ use Rattle.justrave.proofs.Lengths.{two-put}
 use borrow.Author.Needs.{needs}
 use Rattle.justrave.proofs.lent.put_two.Statement.{statement}
 use Rattle.justrave.proofs.lent.put_two.Tie as tie
-use Rattle.justrave.proofs.lent.put_two.Reads as reads
-use Rattle.justrave.proofs.lent.put_two.Lts as lts
 
 slice-write-answer : tie.Need-slice-write-answer
 slice-write-answer c = search needs

@@ -1,6 +1,6 @@
-use mathlib.Core.Path.{ap, sym, _∙_}
+use mathlib.Core.Path.{ap, sym}
 use borrow.Author.Tests.{not-true, not-false}
-use Rattle.arbiter.specs.Limits.{maxPlaces}
+use Rattle.terms.specs.Limits.{maxPlaces}
 use Rattle.justrave.proofs.Lengths.{lent-right}
 use Rattle.asking.specs.Look.{accountAnswerOf}
 use Rattle.justrave.specs.Exported.{lookTold}
@@ -8,12 +8,6 @@ use Rattle.justrave.proofs.Asked.{beside, account-shut, account-told, a
 use borrow.Author.Needs.{needs}
 use Rattle.justrave.proofs.questions.justrave_account.Statement.{statement}
 use Rattle.justrave.proofs.questions.justrave_account.Tie as tie
-use Rattle.justrave.proofs.questions.justrave_account.Reads as reads
-use Rattle.justrave.proofs.questions.justrave_account.Lts as lts
-use Rattle.asking.proofs.look.account_words.Reads as account-words-reads
-use Rattle.justrave.proofs.lent.lengths_hold.Reads as lengths-hold-reads
-use Rattle.justrave.proofs.lent.put_two.Reads as put-two-reads
-use Rattle.outcomes.proofs.codes.refusal_code.Reads as refusal-code-reads
 
 lengths-hold-requires : tie.Need-lengths-hold-requires
 lengths-hold-requires c κs = search needs

@@ -1,19 +1,13 @@
-use mathlib.Core.Path.{ap, sym, _∙_}
+use mathlib.Core.Path.{ap, sym}
 use borrow.Author.Tests.{not-true, not-false}
-use Rattle.arbiter.specs.Limits.{maxPlaces}
+use Rattle.terms.specs.Limits.{maxPlaces}
 use Rattle.justrave.proofs.Lengths.{lent-right}
-use Rattle.arbiter.specs.Asked.{figuresAnswerOf}
+use Rattle.terms.specs.Asked.{figuresAnswerOf}
 use Rattle.justrave.specs.Exported.{figuresTold}
 use Rattle.justrave.proofs.Asked.{beside, figures-shut, figures-told, figures-below}
 use borrow.Author.Needs.{needs}
 use Rattle.justrave.proofs.questions.justrave_figures.Statement.{statement}
 use Rattle.justrave.proofs.questions.justrave_figures.Tie as tie
-use Rattle.justrave.proofs.questions.justrave_figures.Reads as reads
-use Rattle.justrave.proofs.questions.justrave_figures.Lts as lts
-use Rattle.asking.proofs.figures.figures_words.Reads as figures-words-reads
-use Rattle.justrave.proofs.lent.lengths_hold.Reads as lengths-hold-reads
-use Rattle.justrave.proofs.lent.put_two.Reads as put-two-reads
-use Rattle.outcomes.proofs.codes.refusal_code.Reads as refusal-code-reads
 
 lengths-hold-requires : tie.Need-lengths-hold-requires
 lengths-hold-requires c κs = search needs

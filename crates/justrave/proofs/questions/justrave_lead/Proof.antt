@@ -1,21 +1,16 @@
 use mathlib.Core.Path.{ap, sym, _∙_}
 use borrow.Author.Tests.{not-true, not-false}
-use Rattle.arbiter.specs.Limits.{maxPlaces}
+use Rattle.terms.specs.Limits.{maxPlaces}
 use Rattle.justrave.proofs.Lengths.{lent-right}
 use mir.Facts.{toZ-ofZ}
 use native.Mathlib.Omega.{arith}
 use lib.ListN.{set}
-use Rattle.leads.specs.Lead.{leadAnswerOf}
+use Rattle.lead_parts.specs.Lead.{leadAnswerOf}
 use Rattle.justrave.specs.Exported.{leadTold}
 use Rattle.justrave.proofs.Asked.{one-put, beside, lead-shut, lead-told, lead-given, lead-below}
 use borrow.Author.Needs.{needs}
 use Rattle.justrave.proofs.questions.justrave_lead.Statement.{statement}
 use Rattle.justrave.proofs.questions.justrave_lead.Tie as tie
-use Rattle.justrave.proofs.questions.justrave_lead.Reads as reads
-use Rattle.justrave.proofs.questions.justrave_lead.Lts as lts
-use Rattle.asking.proofs.lead.lead_words.Reads as lead-words-reads
-use Rattle.justrave.proofs.lent.lengths_hold.Reads as lengths-hold-reads
-use Rattle.outcomes.proofs.codes.refusal_code.Reads as refusal-code-reads
 
 lengths-hold-requires : tie.Need-lengths-hold-requires
 lengths-hold-requires c κs = search needs

@@ -1,18 +1,13 @@
 use mathlib.Core.Path.{ap, sym, _∙_}
 use borrow.Author.Tests.{not-true, not-false}
-use Rattle.arbiter.specs.Limits.{maxPlaces}
+use Rattle.terms.specs.Limits.{maxPlaces}
 use Rattle.justrave.proofs.Lengths.{lent-right}
-use Rattle.arbiter.specs.Start.{startAnswerOf}
+use Rattle.terms.specs.Answers.{startAnswerOf}
 use Rattle.outcomes.specs.Outcomes.{answerCode}
 use Rattle.justrave.proofs.Started.{bytes-shut, bytes-told, bytes-below}
 use borrow.Author.Needs.{needs}
 use Rattle.justrave.proofs.starting.justrave_start.Statement.{statement}
 use Rattle.justrave.proofs.starting.justrave_start.Tie as tie
-use Rattle.justrave.proofs.starting.justrave_start.Reads as reads
-use Rattle.justrave.proofs.starting.justrave_start.Lts as lts
-use Rattle.justrave.proofs.lent.lengths_hold.Reads as lengths-hold-reads
-use Rattle.outcomes.proofs.codes.refusal_code.Reads as refusal-code-reads
-use Rattle.starts.proofs.bytes.start_bytes.Reads as start-bytes-reads
 
 lengths-hold-requires : tie.Need-lengths-hold-requires
 lengths-hold-requires c κs = search needs

@@ -1,23 +1,15 @@
 use mathlib.Core.Path.{ap, sym, _∙_}
 use borrow.Author.Tests.{not-true, not-false, eqb-true}
-use Rattle.arbiter.specs.Limits.{maxPlaces}
-use Rattle.justrave.proofs.Lengths.{lent-right}
+use Rattle.terms.specs.Limits.{maxPlaces}
+use Rattle.justrave.proofs.Lengths.{lent-right, lent-room}
 use native.Mathlib.Omega.{arith}
-use Rattle.arbiter.specs.Start.{startAnswerOf}
+use Rattle.terms.specs.Answers.{startAnswerOf}
 use Rattle.layout.proofs.RoundTrip.{right}
 use Rattle.outcomes.specs.Outcomes.{answerCode}
-use Rattle.justrave.proofs.Lengths.{lent-room}
 use Rattle.justrave.proofs.Started.{words-shut, numbers-fit, numbers-shut, numbers-told, numbers-below}
 use borrow.Author.Needs.{needs}
 use Rattle.justrave.proofs.starting.justrave_start_numbers.Statement.{statement}
 use Rattle.justrave.proofs.starting.justrave_start_numbers.Tie as tie
-use Rattle.justrave.proofs.starting.justrave_start_numbers.Reads as reads
-use Rattle.justrave.proofs.starting.justrave_start_numbers.Lts as lts
-use Rattle.justrave.proofs.lent.lengths_hold.Reads as lengths-hold-reads
-use Rattle.layout.proofs.numbers.numbers_are_right.Reads as numbers-are-right-reads
-use Rattle.layout.proofs.words.room_of.Reads as room-of-reads
-use Rattle.outcomes.proofs.codes.refusal_code.Reads as refusal-code-reads
-use Rattle.starts.proofs.numbers.start_numbers.Reads as start-numbers-reads
 
 lengths-hold-requires : tie.Need-lengths-hold-requires
 lengths-hold-requires c κs = search needs

@@ -1,18 +1,13 @@
 use mathlib.Core.Path.{ap, sym, _∙_}
 use borrow.Author.Tests.{not-true, not-false}
-use Rattle.arbiter.specs.Limits.{maxPlaces}
-use Rattle.calls.specs.Calls.{postAnswerOf}
+use Rattle.terms.specs.Limits.{maxPlaces}
+use Rattle.terms.specs.Answers.{postAnswerOf}
 use Rattle.outcomes.specs.Outcomes.{answerCode}
 use Rattle.justrave.proofs.Lengths.{lent-right}
 use Rattle.justrave.proofs.Changed.{post-shut, post-told, post-below}
 use borrow.Author.Needs.{needs}
 use Rattle.justrave.proofs.states.justrave_post.Statement.{statement}
 use Rattle.justrave.proofs.states.justrave_post.Tie as tie
-use Rattle.justrave.proofs.states.justrave_post.Reads as reads
-use Rattle.justrave.proofs.states.justrave_post.Lts as lts
-use Rattle.justrave.proofs.lent.lengths_hold.Reads as lengths-hold-reads
-use Rattle.moves.proofs.posts.post_words.Reads as post-words-reads
-use Rattle.outcomes.proofs.codes.refusal_code.Reads as refusal-code-reads
 
 lengths-hold-requires : tie.Need-lengths-hold-requires
 lengths-hold-requires c κs = search needs

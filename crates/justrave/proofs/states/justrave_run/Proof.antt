@@ -1,18 +1,13 @@
 use mathlib.Core.Path.{ap, sym, _∙_}
 use borrow.Author.Tests.{not-true, not-false}
-use Rattle.arbiter.specs.Limits.{maxPlaces}
-use Rattle.run.specs.Log.{runAnswerOf}
+use Rattle.terms.specs.Limits.{maxPlaces}
+use Rattle.terms.specs.Answers.{runAnswerOf}
 use Rattle.outcomes.specs.Outcomes.{answerCode}
 use Rattle.justrave.proofs.Lengths.{lent-right}
 use Rattle.justrave.proofs.Changed.{run-shut, run-told, run-below}
 use borrow.Author.Needs.{needs}
 use Rattle.justrave.proofs.states.justrave_run.Statement.{statement}
 use Rattle.justrave.proofs.states.justrave_run.Tie as tie
-use Rattle.justrave.proofs.states.justrave_run.Reads as reads
-use Rattle.justrave.proofs.states.justrave_run.Lts as lts
-use Rattle.justrave.proofs.lent.lengths_hold.Reads as lengths-hold-reads
-use Rattle.moves.proofs.runs.run_words.Reads as run-words-reads
-use Rattle.outcomes.proofs.codes.refusal_code.Reads as refusal-code-reads
 
 lengths-hold-requires : tie.Need-lengths-hold-requires
 lengths-hold-requires c κs = search needs

@@ -1,8 +1,8 @@
 use mathlib.Core.Path.{ap, sym, _∙_}
 use native.Mathlib.Omega.{arith}
 use borrow.Author.Tests.{not-true, not-false}
-use Rattle.arbiter.specs.Limits.{maxPlaces}
-use Rattle.calls.specs.Calls.{slotAnswerOf}
+use Rattle.terms.specs.Limits.{maxPlaces}
+use Rattle.terms.specs.Answers.{slotAnswerOf}
 use Rattle.outcomes.specs.Outcomes.{answerCode}
 use Rattle.justrave.specs.Exported.{slotWords}
 use Rattle.justrave.proofs.Lengths.{lent-right, lent-room, lent-beside, as-long}
@@ -10,12 +10,6 @@ use Rattle.justrave.proofs.Changed.{slot-shut, slot-told, slot-below, g
 use borrow.Author.Needs.{needs}
 use Rattle.justrave.proofs.states.justrave_slot.Statement.{statement}
 use Rattle.justrave.proofs.states.justrave_slot.Tie as tie
-use Rattle.justrave.proofs.states.justrave_slot.Reads as reads
-use Rattle.justrave.proofs.states.justrave_slot.Lts as lts
-use Rattle.justrave.proofs.lent.lengths_hold.Reads as lengths-hold-reads
-use Rattle.justrave.proofs.lent.put_two.Reads as put-two-reads
-use Rattle.moves.proofs.slots.slot_words.Reads as slot-words-reads
-use Rattle.outcomes.proofs.codes.refusal_code.Reads as refusal-code-reads
 
 lengths-hold-requires : tie.Need-lengths-hold-requires
 lengths-hold-requires c κs = search needs

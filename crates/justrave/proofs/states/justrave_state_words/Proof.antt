@@ -1,12 +1,8 @@
-use mathlib.Core.Path.{_∙_}
 use borrow.Author.Tests.{le-leb, lt-leb}
-use Rattle.arbiter.specs.Limits.{maxPlaces}
+use Rattle.terms.specs.Limits.{maxPlaces}
 use borrow.Author.Needs.{needs}
 use Rattle.justrave.proofs.states.justrave_state_words.Statement.{statement}
 use Rattle.justrave.proofs.states.justrave_state_words.Tie as tie
-use Rattle.justrave.proofs.states.justrave_state_words.Reads as reads
-use Rattle.justrave.proofs.states.justrave_state_words.Lts as lts
-use Rattle.layout.proofs.words.words_of.Reads as words-of-reads
 
 returns : tie.Need-returns
 returns c = rw (lt-leb 1 (c .before .args .places) (c .if1 .taken))

@@ -1,14 +1,12 @@
 use mathlib.Core.Path.{_≡_, refl, sym, _∙_}
 use mathlib.Core.List.{_++_}
-use Prim.Native.Nat.{ℕ, _-_, _≤_}
+use Prim.Native.Nat.{ℕ, _-_}
 use native.Mathlib.Omega.{arith}
-use lib.ListN.{length, getD, take, drop, replicate, length-replicate, length-set}
+use lib.ListN.{length, take, drop, replicate, length-replicate, length-set}
 use Rattle.layout.proofs.Stores.{zero-at}
 use Rattle.lists.proofs.Overwriting.{overwrite-more, overwrite-all}
 use Rattle.layout.proofs.words.clear.Statement.{statement}
 use Rattle.layout.proofs.words.clear.Tie as tie
-use Rattle.layout.proofs.words.clear.Reads as reads
-use Rattle.layout.proofs.words.clear.Lts as lts
 
 abbrev Inv-loop : tie.InvT-loop
 Inv-loop words₀ i₀ words i = (length words ≡ length words₀) × (words ≡ take i (replicate (length words₀) 0) ++ drop i words₀)

@@ -1,17 +1,14 @@
 use mathlib.Core.Path.{_≡_, refl, sym, _∙_}
-use mathlib.Core.Bool.{true, _&&_}
+use mathlib.Core.Bool.{_&&_}
 use Prim.Native.Nat.{_-_}
 use native.Mathlib.Omega.{arith}
 use lib.Dec.{eqb}
-use lib.ListN.{length, getD, drop, drop-of-length-le}
+use lib.ListN.{length, drop}
 use Rattle.lists.specs.Sums.{every}
-use Rattle.lists.proofs.Tests.{every-end}
 use Rattle.layout.specs.Words.{isZero, placeStart}
 use Rattle.layout.proofs.Stores.{zero-more, all-zero}
 use Rattle.layout.proofs.words.is_clear_from.Statement.{statement}
 use Rattle.layout.proofs.words.is_clear_from.Tie as tie
-use Rattle.layout.proofs.words.is_clear_from.Reads as reads
-use Rattle.layout.proofs.words.is_clear_from.Lts as lts
 
 abbrev Inv-loop : tie.InvT-loop
 Inv-loop words p any₀ i₀ any i = every isZero (drop (placeStart p) words) ≡ (eqb any 0 && every isZero (drop i words))

@@ -1,4 +1,3 @@
-use mathlib.Core.Path.{_≡_, sym, _∙_}
 use native.Mathlib.Omega.{arith}
 use borrow.Author.Tests.{le-leb, lt-leb, eq-eqb, ne-eqb}
 use lib.ListN.{length}
@@ -6,9 +5,6 @@ use Rattle.layout.specs.Words.{wordCount, roomOf, rightLength}
 use borrow.Author.Needs.{needs}
 use Rattle.layout.proofs.words.length_is_right.Statement.{statement}
 use Rattle.layout.proofs.words.length_is_right.Tie as tie
-use Rattle.layout.proofs.words.length_is_right.Reads as reads
-use Rattle.layout.proofs.words.length_is_right.Lts as lts
-use Rattle.layout.proofs.words.room_of.Reads as room-of-reads
 
 returns : tie.Need-returns
 unfolding rightLength

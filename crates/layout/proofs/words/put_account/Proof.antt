@@ -1,13 +1,10 @@
-use mathlib.Core.Path.{_≡_, _∙_}
+use mathlib.Core.Path.{_∙_}
 use Prim.Native.Nat.{_+_}
 use lib.ListN.{length-set}
 use Rattle.layout.specs.Words.{placeStart, putAccount}
 use borrow.Author.Needs.{needs}
 use Rattle.layout.proofs.words.put_account.Statement.{statement}
 use Rattle.layout.proofs.words.put_account.Tie as tie
-use Rattle.layout.proofs.words.put_account.Reads as reads
-use Rattle.layout.proofs.words.put_account.Lts as lts
-use Rattle.layout.proofs.words.put_backlog.Reads as put-backlog-reads
 
 mul-words : tie.Need-mul-words
 mul-words c = search needs

@@ -3,8 +3,6 @@ use lib.ListN.{length-set}
 use borrow.Author.Needs.{needs}
 use Rattle.layout.proofs.words.put_head.Statement.{statement}
 use Rattle.layout.proofs.words.put_head.Tie as tie
-use Rattle.layout.proofs.words.put_head.Reads as reads
-use Rattle.layout.proofs.words.put_head.Lts as lts
 
 slice-write-words : tie.Need-slice-write-words
 slice-write-words c = search needs

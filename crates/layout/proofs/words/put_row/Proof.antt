@@ -5,8 +5,6 @@ use Rattle.layout.specs.Words.{putRow}
 use borrow.Author.Needs.{needs}
 use Rattle.layout.proofs.words.put_row.Statement.{statement}
 use Rattle.layout.proofs.words.put_row.Tie as tie
-use Rattle.layout.proofs.words.put_row.Reads as reads
-use Rattle.layout.proofs.words.put_row.Lts as lts
 
 mul-at : tie.Need-mul-at
 mul-at c = search needs

@@ -3,8 +3,6 @@ use Rattle.layout.specs.Words.{roomOf}
 use borrow.Author.Needs.{needs}
 use Rattle.layout.proofs.words.room_of.Statement.{statement}
 use Rattle.layout.proofs.words.room_of.Tie as tie
-use Rattle.layout.proofs.words.room_of.Reads as reads
-use Rattle.layout.proofs.words.room_of.Lts as lts
 
 sub-result : tie.Need-sub-result
 sub-result c = search needs

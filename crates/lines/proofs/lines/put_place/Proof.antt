@@ -1,5 +1,4 @@
 -- `lines::lines::put_place` meets its contract. By the grant. Assumes nothing.
-use mathlib.Core.Path.{_∙_}
 use borrow.Author.Needs.{needs}
 use Rattle.lines.specs.Text.{spaced}
 use Rattle.lines.proofs.lines.put_place.Statement.{statement}

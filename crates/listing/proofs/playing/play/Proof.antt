@@ -1,7 +1,7 @@
 -- `listing::playing::play` meets its contract. By what the posts answer. Assumes nothing.
 use mathlib.Core.Path.{ap}
 use borrow.Author.Needs.{needs}
-use Rattle.calls.specs.Calls.{postAnswerOf}
+use Rattle.terms.specs.Answers.{postAnswerOf}
 use Rattle.listing.proofs.Posting.{played-slot, played-stop}
 use Rattle.listing.proofs.playing.play.Statement.{statement}
 use Rattle.listing.proofs.playing.play.Tie as tie

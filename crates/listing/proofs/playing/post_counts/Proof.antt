@@ -4,14 +4,15 @@ use Prim.Native.Nat.{_-_}
 use native.Mathlib.Omega.{arith}
 use borrow.Author.Needs.{needs}
 use lib.ListN.{length}
-use Rattle.arbiter.specs.Limits.{maxPlaces}
-use Rattle.calls.specs.Calls.{postAnswerOf}
+use Rattle.terms.specs.Limits.{maxPlaces}
+use Rattle.arbiter.specs.ByValue.{held}
+use Rattle.terms.specs.Answers.{postAnswerOf}
 use Rattle.listing.proofs.Posting.{Posting, posting-none, posting-next, posting-stop, posting-end}
 use Rattle.listing.proofs.playing.post_counts.Statement.{statement}
 use Rattle.listing.proofs.playing.post_counts.Tie as tie
 
 abbrev Inv-loop : tie.InvT-loop
-Inv-loop counts state₀ p₀ state p = Posting maxPlaces state₀ counts state p
+Inv-loop counts state₀ p₀ state p = Posting maxPlaces (held state₀) counts (held state) p
 
 abbrev μ-loop : tie.MeasureT-loop
 μ-loop counts state₀ p₀ state p = length counts - p

@@ -1,54 +1,90 @@
 -- `listing::steps::play_slot` meets its contract. By what the reading of the counts answers. Assumes nothing.
-use mathlib.Core.Path.{ap, sym, _∙_}
+use mathlib.Core.Path.{_≡_, ap, sym, _∙_}
+use Prim.Native.Nat.{_≤_}
 use native.Mathlib.Omega.{arith}
 use borrow.Author.Needs.{needs}
 use lib.Seq.{length-take-le}
+use Rattle.terms.specs.Limits.{maxPlaces}
+use Rattle.admission.proofs.Rows.{count-word}
+use Rattle.arbiter.specs.ByValue.{held}
+use Rattle.arbiter.proofs.Shapes.{words-full}
+use Rattle.reads.specs.Reads.{countsRead}
 use Rattle.listing.proofs.Telling.{sound-few, played-few, slot-stopped, slot-played}
-use Rattle.reads.specs.Parts.{countedOf}
+use Rattle.reads.specs.Parts.{countedOf, countsOf}
 use Rattle.listing.specs.Room.{written}
 use Rattle.listing.proofs.steps.play_slot.Statement.{statement}
 use Rattle.listing.proofs.steps.play_slot.Tie as tie
 
+-- N of the words is N of the state
+the-count : (c : tie.After-count) → c .count .result ≡ held (c .before .before .before .before .before .args .s) .table .count
+the-count c = c .count .ensures ∙ count-word (c .before .before .before .before .before .args .s .words)
+
+few : (c : tie.After-count) → c .count .result ≤ maxPlaces
+few c = rw (the-count c) (sound-few (held (c .before .before .before .before .before .args .s)) (c .before .before .before .before .before .pre .1))
+
+-- what was read are the counts of its places
+counts-are : (c : tie.After-read-counts) → countsOf (c .before .count .result) (c .before .before .before .before .before .before .args .rest .now) (c .read-counts .result) ≡ countsRead (held (c .before .before .before .before .before .before .args .s) .table .count) (c .before .before .before .before .before .before .args .rest .now)
+counts-are c = c .read-counts .ensures .0 ∙ ap (λ n. countsRead n (c .before .before .before .before .before .before .args .rest .now)) (the-count (c .before))
+
+slice-aggregate-count : tie.Need-slice-aggregate-count
+slice-aggregate-count c = search needs
+
+count-requires : tie.Need-count-requires
+count-requires c κs = omega (arith, words-full (c .before .before .before .before .args .s) (c .before .before .before .before .good .0))
+
 read-counts-requires : tie.Need-read-counts-requires
-read-counts-requires c κs = sound-few (c .before .before .before .args .s) (c .before .before .before .pre .1)
+read-counts-requires c κs = few c
 
 enum-known-answer : tie.Need-enum-known-answer
 enum-known-answer c = search needs
 
 refuse-requires : tie.Need-refuse-requires
-refuse-requires c κs = c .before .before .before .before .before .before .before .before .before .pre .0
+refuse-requires c κs = c .before .before .before .before .before .before .before .before .before .before .before .pre .0
 
 enum-known-answer-2 : tie.Need-enum-known-answer-2
 enum-known-answer-2 c = search needs
 
 array-share-prefix-counts : tie.Need-array-share-prefix-counts
-array-share-prefix-counts c = rw (c .before .before .before .before .read-counts .ensures .1 .1) (sound-few (c .before .before .before .before .before .before .before .before .args .s) (c .before .before .before .before .before .before .before .before .pre .1))
+array-share-prefix-counts c = rw (c .before .before .before .before .read-counts .ensures .1 .1) (few (c .before .before .before .before .before))
 
 slice-aggregate-play : tie.Need-slice-aggregate-play
-slice-aggregate-play c = sym (length-take-le _ _ (rw (c .before .before .before .before .before .read-counts .ensures .1 .1) (sound-few (c .before .before .before .before .before .before .before .before .before .args .s) (c .before .before .before .before .before .before .before .before .before .pre .1))))
+slice-aggregate-play c = sym (length-take-le _ _ (rw (c .before .before .before .before .before .read-counts .ensures .1 .1) (few (c .before .before .before .before .before .before))))
 
 play-requires : tie.Need-play-requires
 play-requires c κs = search needs
 
 tell-requires : tie.Need-tell-requires
-tell-requires c κs = (c .before .before .before .before .before .before .before .before .before .before .before .pre .0, played-few (c .before .before .before .before .before .before .before .before .before .before .before .args .s) _ _ (c .before .before .before .before .before .before .before .before .before .before .before .pre .1) (c .before .play .ensures))
+tell-requires c κs = (c .before .before .before .before .before .before .before .before .before .before .before .before .before .pre .0, played-few (held (c .before .before .before .before .before .before .before .before .before .before .before .before .before .args .s)) _ _ (c .before .before .before .before .before .before .before .before .before .before .before .before .before .pre .1) (c .before .play .ensures))
 
 same-length : tie.Need-same-length
 same-length c = search needs
 
 returns : tie.Need-returns
-returns c = let stopped = ap (countedOf _ _) (sym (c .before .before .before .before .before .answer .given .1)) ∙ c .before .before .before .before .before .before .before .before .read-counts .ensures .0 in (c .before .before .refuse .ensures .0 _ ∙ ap (λ t. written t (c .before .before .before .before .before .before .before .before .before .before .before .before .args .out .now)) (slot-stopped _ (c .before .before .before .before .before .before .before .before .before .before .before .before .args .s) _ _ stopped), (omega (arith, c .before .before .refuse .ensures .1 .0), c .before .before .refuse .ensures .1 .1))
+returns c =
+    let a = c .before .before .before .before .before .before .before .before .before .before .before .before .before .before .args in
+    let stopped = ap (countedOf _ _) (sym (c .before .before .before .before .before .answer .given .1)) ∙ counts-are (c .before .before .before .before .before .before .before .before) in (
+      c .before .before .refuse .ensures .0 _ ∙ ap (λ t. written t (a .out .now)) (slot-stopped _ (held (a .s)) _ _ stopped),
+      (omega (arith, c .before .before .refuse .ensures .1 .0), c .before .before .refuse .ensures .1 .1),
+    )
 
 same-length-2 : tie.Need-same-length-2
 same-length-2 c = search needs
 
 returns-2 : tie.Need-returns-2
-returns-2 c = let counted = ap (countedOf _ _) (sym (c .before .before .before .before .before .before .before .answer2 .given .1)) ∙ c .before .before .before .before .before .before .before .before .before .before .read-counts .ensures .0 in let there = rw (c .before .before .before .before .before .before .before .answer2 .given .1) at (c .before .before .before .before .before .before .before .before .before .before .read-counts .ensures .1 .0) in (c .before .before .tell .ensures .0 _ ∙ ap (λ t. written t (c .before .before .before .before .before .before .before .before .before .before .before .before .before .before .args .out .now)) (slot-played _ (c .before .before .before .before .before .before .before .before .before .before .before .before .before .before .args .s) _ _ _ _ counted (c .before .before .before .before .play .ensures)), (omega (arith, c .before .before .tell .ensures .1 .0, there), c .before .before .tell .ensures .1 .1))
+returns-2 c =
+    let a = c .before .before .before .before .before .before .before .before .before .before .before .before .before .before .before .before .args in
+    let counted = ap (countedOf _ _) (sym (c .before .before .before .before .before .before .before .answer2 .given .1)) ∙ counts-are (c .before .before .before .before .before .before .before .before .before .before) in
+    let there = rw (c .before .before .before .before .before .before .before .answer2 .given .1) at (c .before .before .before .before .before .before .before .before .before .before .read-counts .ensures .1 .0) in (
+      c .before .before .tell .ensures .0 _ ∙ ap (λ t. written t (a .out .now)) (slot-played _ (held (a .s)) _ _ _ _ counted (c .before .before .before .before .play .ensures)),
+      (omega (arith, c .before .before .tell .ensures .1 .0, there), c .before .before .tell .ensures .1 .1),
+    )
 
 pub play-slot-spec : {M : Type 1} → statement M
 play-slot-spec =
     tie.close
     (tie.spec
+    slice-aggregate-count
+    count-requires
     read-counts-requires
     enum-known-answer
     refuse-requires

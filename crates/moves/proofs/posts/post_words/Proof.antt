@@ -1,19 +1,13 @@
-use mathlib.Core.Path.{refl, sym, ap, _∙_}
+use mathlib.Core.Path.{sym, ap, _∙_}
 use native.Mathlib.Omega.{arith}
 use borrow.Author.Tests.{not-true, not-false}
-use Rattle.arbiter.specs.State.{backlog}
-use Rattle.calls.specs.Calls.{withCount}
+use Rattle.terms.specs.State.{backlog}
+use Rattle.rule.specs.Calls.{withCount}
 use Rattle.moves.proofs.Readiness.{head-there, place-there, the-count}
 use Rattle.moves.proofs.Posting.{post-23, post-11, backlog-fits, post-21, post-done}
 use borrow.Author.Needs.{needs}
 use Rattle.moves.proofs.posts.post_words.Statement.{statement}
 use Rattle.moves.proofs.posts.post_words.Tie as tie
-use Rattle.moves.proofs.posts.post_words.Reads as reads
-use Rattle.moves.proofs.posts.post_words.Lts as lts
-use Rattle.layout.proofs.words.account.Reads as account-reads
-use Rattle.layout.proofs.words.count.Reads as count-reads
-use Rattle.layout.proofs.words.put_account.Reads as put-account-reads
-use Rattle.soundness.proofs.soundness.is_sound.Reads as is-sound-reads
 
 is-sound-requires : tie.Need-is-sound-requires
 is-sound-requires c κs = search needs

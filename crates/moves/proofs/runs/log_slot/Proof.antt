@@ -1,14 +1,10 @@
 use mathlib.Core.Path.{ap, _∙_}
-use Rattle.run.specs.Log.{grantByte}
-use Rattle.run.proofs.Logs.{first-byte}
+use Rattle.rule.specs.Log.{grantByte}
+use Rattle.rule.proofs.Logs.{first-byte}
 use Rattle.moves.proofs.Going.{grant-fits}
 use borrow.Author.Needs.{needs}
 use Rattle.moves.proofs.runs.log_slot.Statement.{statement}
 use Rattle.moves.proofs.runs.log_slot.Tie as tie
-use Rattle.moves.proofs.runs.log_slot.Reads as reads
-use Rattle.moves.proofs.runs.log_slot.Lts as lts
-use Rattle.moves.proofs.runs.grant_byte.Reads as grant-byte-reads
-use Rattle.moves.proofs.slots.advance.Reads as advance-reads
 
 advance-requires : tie.Need-advance-requires
 advance-requires c κs = search needs

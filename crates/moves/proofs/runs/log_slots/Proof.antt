@@ -1,13 +1,9 @@
-use mathlib.Core.Path.{_∙_}
 use Prim.Native.Nat.{_-_}
 use native.Mathlib.Omega.{arith}
 use lib.ListN.{length, length-take, length-drop}
 use Rattle.moves.proofs.Going.{Going, going-none, going-length, going-next, going-all}
 use Rattle.moves.proofs.runs.log_slots.Statement.{statement}
 use Rattle.moves.proofs.runs.log_slots.Tie as tie
-use Rattle.moves.proofs.runs.log_slots.Reads as reads
-use Rattle.moves.proofs.runs.log_slots.Lts as lts
-use Rattle.moves.proofs.runs.log_slot.Reads as log-slot-reads
 
 abbrev Inv-loop : tie.InvT-loop
 Inv-loop words₀ d n log₀ at₀ words log at = Going words₀ d n log₀ words log at

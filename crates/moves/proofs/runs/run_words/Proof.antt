@@ -2,19 +2,12 @@ use mathlib.Core.Path.{refl, sym, ap, _∙_}
 use native.Mathlib.Omega.{arith}
 use borrow.Author.Tests.{not-true, not-false}
 use Rattle.layout.specs.Words.{roomOf, stateOf}
-use Rattle.run.proofs.Logs.{run-unsound, run-refused, run-done}
+use Rattle.rule.proofs.Logs.{run-unsound, run-refused, run-done}
 use Rattle.moves.proofs.Readiness.{head-there, held, the-denominator, the-count, the-slot}
 use Rattle.moves.proofs.Going.{length-13, length-22, length-passes}
 use borrow.Author.Needs.{needs}
 use Rattle.moves.proofs.runs.run_words.Statement.{statement}
 use Rattle.moves.proofs.runs.run_words.Tie as tie
-use Rattle.moves.proofs.runs.run_words.Reads as reads
-use Rattle.moves.proofs.runs.run_words.Lts as lts
-use Rattle.layout.proofs.words.count.Reads as count-reads
-use Rattle.layout.proofs.words.denominator.Reads as denominator-reads
-use Rattle.layout.proofs.words.slot_number.Reads as slot-number-reads
-use Rattle.moves.proofs.runs.log_slots.Reads as log-slots-reads
-use Rattle.soundness.proofs.soundness.is_sound.Reads as is-sound-reads
 
 is-sound-requires : tie.Need-is-sound-requires
 is-sound-requires c κs = search needs

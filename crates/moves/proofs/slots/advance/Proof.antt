@@ -1,17 +1,9 @@
 use mathlib.Core.Path.{sym, ap, _∙_}
 use native.Mathlib.Omega.{arith}
-use lib.ListN.{length-set}
-use Rattle.arbiter.specs.Limits.{maxSlot}
 use Rattle.layout.specs.Words.{stateOf}
 use Rattle.moves.proofs.Readiness.{head-there, held, ready-roomy, ready-grant, slot-done, the-slot}
-use borrow.Author.Needs.{needs}
 use Rattle.moves.proofs.slots.advance.Statement.{statement}
 use Rattle.moves.proofs.slots.advance.Tie as tie
-use Rattle.moves.proofs.slots.advance.Reads as reads
-use Rattle.moves.proofs.slots.advance.Lts as lts
-use Rattle.layout.proofs.words.put_slot_number.Reads as put-slot-number-reads
-use Rattle.layout.proofs.words.slot_number.Reads as slot-number-reads
-use Rattle.walk.proofs.slot.one_slot.Reads as one-slot-reads
 
 slot-number-requires : tie.Need-slot-number-requires
 slot-number-requires c κs = head-there (c .before .before .args .words .now) (c .before .before .pre .right)

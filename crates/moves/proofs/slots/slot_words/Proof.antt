@@ -1,4 +1,4 @@
-use mathlib.Core.Path.{refl, sym, ap, _∙_}
+use mathlib.Core.Path.{sym, ap, _∙_}
 use native.Mathlib.Omega.{arith}
 use borrow.Author.Tests.{not-true, not-false}
 use Rattle.moves.proofs.Readiness.{head-there, the-denominator, the-count, the-slot}
@@ -6,13 +6,6 @@ use Rattle.moves.proofs.Going.{slot-23, slot-22, slot-idle, slot-grante
 use borrow.Author.Needs.{needs}
 use Rattle.moves.proofs.slots.slot_words.Statement.{statement}
 use Rattle.moves.proofs.slots.slot_words.Tie as tie
-use Rattle.moves.proofs.slots.slot_words.Reads as reads
-use Rattle.moves.proofs.slots.slot_words.Lts as lts
-use Rattle.layout.proofs.words.count.Reads as count-reads
-use Rattle.layout.proofs.words.denominator.Reads as denominator-reads
-use Rattle.layout.proofs.words.slot_number.Reads as slot-number-reads
-use Rattle.moves.proofs.slots.advance.Reads as advance-reads
-use Rattle.soundness.proofs.soundness.is_sound.Reads as is-sound-reads
 
 is-sound-requires : tie.Need-is-sound-requires
 is-sound-requires c κs = search needs

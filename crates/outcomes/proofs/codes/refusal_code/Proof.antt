@@ -1,7 +1,7 @@
 -- `outcomes::codes::refusal_code` meets its contract. By the place that the refusal names, which is below the largest N. Assumes nothing.
 use native.Mathlib.Omega.{arith}
 use borrow.Author.Needs.{needs}
-use Rattle.arbiter.specs.Limits.{maxPlaces}
+use Rattle.terms.specs.Limits.{maxPlaces}
 use Rattle.outcomes.proofs.Numbering.{code-nowhere, code-place, code-below}
 use Rattle.outcomes.proofs.codes.refusal_code.Statement.{statement}
 use Rattle.outcomes.proofs.codes.refusal_code.Tie as tie

@@ -2,7 +2,7 @@
 use mathlib.Core.Path.{ap, sym, _∙_}
 use native.Mathlib.Omega.{arith}
 use borrow.Author.Needs.{needs}
-use Rattle.arbiter.specs.Refusals.{verdictOf}
+use Rattle.terms.specs.Refusals.{verdictOf}
 use Rattle.reads.proofs.Beginnings.{input-refused, input-accepted}
 use Rattle.reads.specs.Parts.{begunAs}
 use Rattle.reads.proofs.beginning.begin.Statement.{statement}

@@ -39,14 +39,11 @@ refuse-requires-2 c κs = search needs
 returns : tie.Need-returns
 returns c = (ap (begunAs _ _) (c .refuse2 .ensures) ∙ size-passes _ _ _ _ (ap (fieldOf _) (sym (c .before .before .before .before .before .found2 .given .1)) ∙ c .before .before .before .before .before .before .before .read-value .ensures .0) (c .before .if1 .taken), rw (c .refuse2 .ensures) (omega arith))
 
-slice-aggregate-read-table : tie.Need-slice-aggregate-read-table
-slice-aggregate-read-table c = sym (length-take-le _ _ (c .before .if1 .left))
-
-read-table-requires : tie.Need-read-table-requires
-read-table-requires c κs = search needs
+slice-aggregate-begin-at-0 : tie.Need-slice-aggregate-begin-at-0
+slice-aggregate-begin-at-0 c = sym (length-take-le _ _ (c .before .if1 .left))
 
 add-begin-at-0 : tie.Need-add-begin-at-0
-add-begin-at-0 c = omega (arith, table-there (c .before .before .before .before .before .before .before .before .before .before .args .input .now) _ _ (rw (c .before .before .before .before .before .before .found2 .given .1) at (c .before .before .before .before .before .before .before .before .read-value .ensures .1)) (c .before .before .if1 .left), c .before .before .before .before .before .before .before .before .before .before .good)
+add-begin-at-0 c = omega (arith, table-there (c .before .before .before .before .before .before .before .before .before .args .input .now) _ _ (rw (c .before .before .before .before .before .found2 .given .1) at (c .before .before .before .before .before .before .before .read-value .ensures .1)) (c .before .if1 .left), c .before .before .before .before .before .before .before .before .before .good)
 
 begin-at-0-requires : tie.Need-begin-at-0-requires
 begin-at-0-requires c κs = search needs
@@ -55,7 +52,7 @@ returns-2 : tie.Need-returns-2
 returns-2 c = (ap (begunAs _ _) (c .refuse .ensures) ∙ size-refused _ _ _ (ap (fieldOf _) (sym (c .before .before .found .given .1)) ∙ c .before .before .before .before .read-value .ensures .0), rw (c .refuse .ensures) (omega arith))
 
 returns-3 : tie.Need-returns-3
-returns-3 c = (table-begins _ _ _ _ (ap (fieldOf _) (sym (c .before .before .before .before .before .before .before .found2 .given .1)) ∙ c .before .before .before .before .before .before .before .before .before .read-value .ensures .0) (rw (c .before .before .before .before .before .before .before .found2 .given .1) at (c .before .before .before .before .before .before .before .before .before .read-value .ensures .1)) (c .before .before .before .if1 .left) _ _ (c .begin-at-0 .ensures .0 _) (c .before .read-table .ensures), omega (arith, c .begin-at-0 .ensures .1, table-there (c .before .before .before .before .before .before .before .before .before .before .before .args .input .now) _ _ (rw (c .before .before .before .before .before .before .before .found2 .given .1) at (c .before .before .before .before .before .before .before .before .before .read-value .ensures .1)) (c .before .before .before .if1 .left)))
+returns-3 c = (table-begins _ _ _ _ (ap (fieldOf _) (sym (c .before .before .before .before .before .before .found2 .given .1)) ∙ c .before .before .before .before .before .before .before .before .read-value .ensures .0) (rw (c .before .before .before .before .before .before .found2 .given .1) at (c .before .before .before .before .before .before .before .before .read-value .ensures .1)) (c .before .before .if1 .left) _ (c .begin-at-0 .ensures .0 _), omega (arith, c .begin-at-0 .ensures .1, table-there (c .before .before .before .before .before .before .before .before .before .before .args .input .now) _ _ (rw (c .before .before .before .before .before .before .found2 .given .1) at (c .before .before .before .before .before .before .before .before .read-value .ensures .1)) (c .before .before .if1 .left)))
 
 pub begin-table-spec : {M : Type 1} → statement M
 begin-table-spec =
@@ -71,8 +68,7 @@ begin-table-spec =
     part-rest-end
     refuse-requires-2
     returns
-    slice-aggregate-read-table
-    read-table-requires
+    slice-aggregate-begin-at-0
     add-begin-at-0
     begin-at-0-requires
     returns-2

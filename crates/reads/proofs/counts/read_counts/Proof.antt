@@ -4,7 +4,7 @@ use Prim.Native.Nat.{_-_}
 use native.Mathlib.Omega.{arith}
 use borrow.Author.Needs.{needs}
 use lib.ListN.{length, length-replicate}
-use Rattle.arbiter.specs.Limits.{maxPlaces}
+use Rattle.terms.specs.Limits.{maxPlaces}
 use Rattle.reads.proofs.Counting.{Counting, counting-none, counting-next, counting-stop, counting-end, counting-left, counting-length}
 use Rattle.table_bytes.specs.Reading.{fieldOf}
 use Rattle.reads.proofs.counts.read_counts.Statement.{statement}

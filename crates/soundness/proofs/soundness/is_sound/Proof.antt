@@ -10,12 +10,13 @@ use lib.ListN.{length, getD, drop}
 use Rattle.lists.specs.Choices.{inRange}
 use Rattle.lists.specs.Sums.{every}
 use Rattle.lists.proofs.Tests.{in-range, in-range-true}
-use Rattle.arbiter.specs.Limits.{maxPlaces, maxDenominator}
-use Rattle.arbiter.specs.Table.{Bounds, denominatorBounds}
+use Rattle.terms.specs.Limits.{maxPlaces, maxDenominator}
+use Rattle.terms.specs.Table.{Bounds, denominatorBounds}
 use Rattle.layout.specs.Words.{placeStart, roomOf, rightLength, stateOf, isZero}
 use Rattle.layout.proofs.RoundTrip.{right}
 use Rattle.soundness.specs.Soundness.{placesHold}
-use Rattle.soundness.proofs.Tests.{admitted, d-out, n-none, n-over, slot-over, places-out, rest-tells}
+use Rattle.terms.proofs.AsTests.{admitted}
+use Rattle.soundness.proofs.Tests.{d-out, n-none, n-over, slot-over, places-out, rest-tells}
 use Rattle.soundness.proofs.soundness.is_sound.Statement.{statement}
 use Rattle.soundness.proofs.soundness.is_sound.Tie as tie
 
@@ -45,19 +46,19 @@ count-requires c κs = head (c .before .before .args .words .now) (c .before .be
 slot-number-requires : tie.Need-slot-number-requires
 slot-number-requires c κs = head (c .before .before .before .args .words .now) (c .before .before .before .pre)
 
-of-denominator-requires : tie.Need-of-denominator-requires
-of-denominator-requires c κs = search needs
+denominator-bounds-requires : tie.Need-denominator-bounds-requires
+denominator-bounds-requires c κs = search needs
 
 admits-requires : tie.Need-admits-requires
 admits-requires c κs = search needs
 
 returns : tie.Need-returns
-returns c = let w = c .before .before .before .before .before .before .before .args .words .now in d-out w (the-d w _ _ _ (c .before .before .before .before .before .denominator .ensures) (c .before .admits .ensures) (c .before .before .of-denominator .ensures) ∙ not-true _ (c .if1 .taken))
+returns c = let w = c .before .before .before .before .before .before .before .args .words .now in d-out w (the-d w _ _ _ (c .before .before .before .before .before .denominator .ensures) (c .before .admits .ensures) (c .before .before .denominator-bounds .ensures) ∙ not-true _ (c .if1 .taken))
 
 returns-2 : tie.Need-returns-2
 returns-2 c =
     let w = c .before .before .before .before .before .before .before .before .args .words .now in
-    n-none w (the-d w _ _ _ (c .before .before .before .before .before .before .denominator .ensures) (c .before .before .admits .ensures) (c .before .before .before .of-denominator .ensures) ∙ not-false _ (c .before .if1 .left)) (omega (arith, c .if2 .taken, c .before .before .before .before .before .count .ensures))
+    n-none w (the-d w _ _ _ (c .before .before .before .before .before .before .denominator .ensures) (c .before .before .admits .ensures) (c .before .before .before .denominator-bounds .ensures) ∙ not-false _ (c .before .if1 .left)) (omega (arith, c .if2 .taken, c .before .before .before .before .before .count .ensures))
 
 room-of-requires : tie.Need-room-of-requires
 room-of-requires c κs = head (c .before .before .before .before .before .before .before .before .args .words .now) (c .before .before .before .before .before .before .before .before .pre)
@@ -65,23 +66,23 @@ room-of-requires c κs = head (c .before .before .before .before .before .before
 returns-3 : tie.Need-returns-3
 returns-3 c =
     let w = c .before .before .before .before .before .before .before .before .before .before .args .words .now in
-    n-over w (the-d w _ _ _ (c .before .before .before .before .before .before .before .before .denominator .ensures) (c .before .before .before .before .admits .ensures) (c .before .before .before .before .before .of-denominator .ensures) ∙ not-false _ (c .before .before .before .if1 .left)) (omega (arith, c .if3 .taken, c .before .before .before .before .before .before .before .count .ensures, c .before .room-of .ensures))
+    n-over w (the-d w _ _ _ (c .before .before .before .before .before .before .before .before .denominator .ensures) (c .before .before .before .before .admits .ensures) (c .before .before .before .before .before .denominator-bounds .ensures) ∙ not-false _ (c .before .before .before .if1 .left)) (omega (arith, c .if3 .taken, c .before .before .before .before .before .before .before .count .ensures, c .before .room-of .ensures))
 
 returns-4 : tie.Need-returns-4
 returns-4 c =
     let w = c .before .before .before .before .before .before .before .before .before .before .before .before .args .words .now in
-    slot-over w (the-d w _ _ _ (c .before .before .before .before .before .before .before .before .before .before .denominator .ensures) (c .before .before .before .before .before .before .admits .ensures) (c .before .before .before .before .before .before .before .of-denominator .ensures) ∙ not-false _ (c .before .before .before .before .before .if1 .left)) (the-n w _ _ (c .before .before .before .before .before .before .before .before .before .count .ensures) (c .before .before .before .room-of .ensures) (c .before .before .before .before .if2 .left) (c .before .before .if3 .left)) (omega (arith, c .if4 .taken, ap (λ x. x .0) (c .before .before .before .before .before .before .before .before .slot-number .ensures)))
+    slot-over w (the-d w _ _ _ (c .before .before .before .before .before .before .before .before .before .before .denominator .ensures) (c .before .before .before .before .before .before .admits .ensures) (c .before .before .before .before .before .before .before .denominator-bounds .ensures) ∙ not-false _ (c .before .before .before .before .before .if1 .left)) (the-n w _ _ (c .before .before .before .before .before .before .before .before .before .count .ensures) (c .before .before .before .room-of .ensures) (c .before .before .before .before .if2 .left) (c .before .before .if3 .left)) (omega (arith, c .if4 .taken, ap (λ x. x .0) (c .before .before .before .before .before .before .before .before .slot-number .ensures)))
 
 places-hold-requires : tie.Need-places-hold-requires
 places-hold-requires c κs =
     let w = c .before .before .before .before .before .before .before .before .before .before .before .before .args .words .now in
-    let d = in-range-true 1 maxDenominator (getD w 0 0) (the-d w _ _ _ (c .before .before .before .before .before .before .before .before .before .before .denominator .ensures) (c .before .before .before .before .before .before .admits .ensures) (c .before .before .before .before .before .before .before .of-denominator .ensures) ∙ not-false _ (c .before .before .before .before .before .if1 .left)) in
+    let d = in-range-true 1 maxDenominator (getD w 0 0) (the-d w _ _ _ (c .before .before .before .before .before .before .before .before .before .before .denominator .ensures) (c .before .before .before .before .before .before .admits .ensures) (c .before .before .before .before .before .before .before .denominator-bounds .ensures) ∙ not-false _ (c .before .before .before .before .before .if1 .left)) in
     (c .before .before .before .before .before .before .before .before .before .before .before .before .pre, omega (arith, c .before .before .if3 .left, c .before .before .before .room-of .ensures), omega (arith, d .1, c .before .before .before .before .before .before .before .before .before .before .denominator .ensures))
 
 returns-5 : tie.Need-returns-5
 returns-5 c =
     let w = c .before .before .before .before .before .before .before .before .before .before .before .before .before .before .args .words .now in
-    places-out w (the-d w _ _ _ (c .before .before .before .before .before .before .before .before .before .before .before .before .denominator .ensures) (c .before .before .before .before .before .before .before .before .admits .ensures) (c .before .before .before .before .before .before .before .before .before .of-denominator .ensures) ∙ not-false _ (c .before .before .before .before .before .before .before .if1 .left)) (the-n w _ _ (c .before .before .before .before .before .before .before .before .before .before .before .count .ensures) (c .before .before .before .before .before .room-of .ensures) (c .before .before .before .before .before .before .if2 .left) (c .before .before .before .before .if3 .left)) (omega (arith, c .before .before .if4 .left, ap (λ x. x .0) (c .before .before .before .before .before .before .before .before .before .before .slot-number .ensures)))
+    places-out w (the-d w _ _ _ (c .before .before .before .before .before .before .before .before .before .before .before .before .denominator .ensures) (c .before .before .before .before .before .before .before .before .admits .ensures) (c .before .before .before .before .before .before .before .before .before .denominator-bounds .ensures) ∙ not-false _ (c .before .before .before .before .before .before .before .if1 .left)) (the-n w _ _ (c .before .before .before .before .before .before .before .before .before .before .before .count .ensures) (c .before .before .before .before .before .room-of .ensures) (c .before .before .before .before .before .before .if2 .left) (c .before .before .before .before .if3 .left)) (omega (arith, c .before .before .if4 .left, ap (λ x. x .0) (c .before .before .before .before .before .before .before .before .before .before .slot-number .ensures)))
     (the-walk w _ _ _ (c .before .before .before .before .before .before .before .before .before .before .before .before .denominator .ensures) (c .before .before .before .before .before .before .before .before .before .before .before .count .ensures) (c .before .places-hold .ensures) ∙ not-true _ (c .if5 .taken))
 
 is-clear-from-requires : tie.Need-is-clear-from-requires
@@ -94,7 +95,7 @@ returns-6 c =
     let w = c .before .before .before .before .before .before .before .before .before .before .before .before .before .before .before .args .words .now in
     let same = ap (λ x. every isZero (drop (placeStart x) w)) (c .before .before .before .before .before .before .before .before .before .before .before .before .count .ensures) in
     c .is-clear-from .ensures ∙ same
-    ∙ rest-tells w (the-d w _ _ _ (c .before .before .before .before .before .before .before .before .before .before .before .before .before .denominator .ensures) (c .before .before .before .before .before .before .before .before .before .admits .ensures) (c .before .before .before .before .before .before .before .before .before .before .of-denominator .ensures) ∙ not-false _ (c .before .before .before .before .before .before .before .before .if1 .left)) (the-n w _ _ (c .before .before .before .before .before .before .before .before .before .before .before .before .count .ensures) (c .before .before .before .before .before .before .room-of .ensures) (c .before .before .before .before .before .before .before .if2 .left) (c .before .before .before .before .before .if3 .left)) (omega (arith, c .before .before .before .if4 .left, ap (λ x. x .0) (c .before .before .before .before .before .before .before .before .before .before .before .slot-number .ensures)))
+    ∙ rest-tells w (the-d w _ _ _ (c .before .before .before .before .before .before .before .before .before .before .before .before .before .denominator .ensures) (c .before .before .before .before .before .before .before .before .before .admits .ensures) (c .before .before .before .before .before .before .before .before .before .before .denominator-bounds .ensures) ∙ not-false _ (c .before .before .before .before .before .before .before .before .if1 .left)) (the-n w _ _ (c .before .before .before .before .before .before .before .before .before .before .before .before .count .ensures) (c .before .before .before .before .before .before .room-of .ensures) (c .before .before .before .before .before .before .before .if2 .left) (c .before .before .before .before .before .if3 .left)) (omega (arith, c .before .before .before .if4 .left, ap (λ x. x .0) (c .before .before .before .before .before .before .before .before .before .before .before .slot-number .ensures)))
     (the-walk w _ _ _ (c .before .before .before .before .before .before .before .before .before .before .before .before .before .denominator .ensures) (c .before .before .before .before .before .before .before .before .before .before .before .before .count .ensures) (c .before .before .places-hold .ensures) ∙ not-false _ (c .before .if5 .left)) (right maxPlaces w (c .before .before .before .before .before .before .before .before .before .before .before .before .before .before .before .pre) .long)
 
 pub is-sound-spec : {M : Type 1} → statement M
@@ -104,7 +105,7 @@ is-sound-spec =
     denominator-requires
     count-requires
     slot-number-requires
-    of-denominator-requires
+    denominator-bounds-requires
     admits-requires
     returns
     returns-2

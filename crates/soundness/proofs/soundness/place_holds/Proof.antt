@@ -3,9 +3,6 @@ use borrow.Author.Tests.{not-true, not-false}
 use borrow.Author.Needs.{needs}
 use Rattle.soundness.proofs.soundness.place_holds.Statement.{statement}
 use Rattle.soundness.proofs.soundness.place_holds.Tie as tie
-use Rattle.soundness.proofs.soundness.place_holds.Reads as reads
-use Rattle.soundness.proofs.soundness.place_holds.Lts as lts
-use Rattle.soundness.proofs.soundness.row_holds.Reads as row-holds-reads
 
 row-holds-requires : tie.Need-row-holds-requires
 row-holds-requires c κs = search needs

@@ -7,12 +7,11 @@ use native.Mathlib.Omega.{arith}
 use borrow.Author.Tests.{not-true, not-false}
 use borrow.Author.Needs.{needs}
 use lib.ListN.{length, getD}
-use Rattle.arbiter.specs.declared.table.Requestor.{Requestor}
-use Rattle.arbiter.specs.declared.state.Account.{Account}
-use Rattle.arbiter.specs.Limits.{maxPlaces, maxDenominator}
-use Rattle.arbiter.specs.Table.{noRequestor}
-use Rattle.arbiter.specs.State.{noAccount}
-use Rattle.arbiter.proofs.Checks.{Row}
+use Rattle.terms.specs.declared.place.Requestor.{Requestor}
+use Rattle.terms.specs.declared.place.Account.{Account}
+use Rattle.terms.specs.Limits.{maxPlaces, maxDenominator}
+use Rattle.terms.specs.Table.{noRequestor}
+use Rattle.terms.specs.State.{noAccount}
 use Rattle.layout.specs.Words.{wordCount, roomOf, rightLength, rowIn, accountIn, stateOf}
 use Rattle.layout.proofs.RoundTrip.{right, words-shaped, row-at, account-at}
 use Rattle.soundness.proofs.Walk.{Held, held-none, place-stops, credit-stops, held-row, held-more, held-end}

@@ -4,8 +4,8 @@ use mathlib.Core.List.{List}
 use Prim.Native.Nat.{ℕ, _-_}
 use native.Mathlib.Omega.{arith}
 use lib.ListN.{length, take, drop}
-use Rattle.arbiter.specs.Limits.{maxPlaces}
-use Rattle.arbiter.specs.Table.{denominatorBounds, countBounds}
+use Rattle.terms.specs.Limits.{maxPlaces}
+use Rattle.terms.specs.Table.{denominatorBounds, countBounds}
 use Rattle.table_bytes.proofs.Readings.{Took, took, turned-down, reach-first, reach-next, reach-stop, stop-first, table-begins, table-stop, table-read}
 use Rattle.table_bytes.proofs.Accepted.{took-held}
 use Rattle.layout.specs.Words.{roomOf}
@@ -22,16 +22,16 @@ behind bytes taken = take (length bytes - taken) (drop taken bytes)
 
 -- D was read from the start of the bytes, and N from what D left
 took-d : (c : tie.After-known-told) → Took denominatorBounds (c .before .before .before .before .before .before .before .before .before .args .table .now) (c .before .x .given .0 .0 .value) (c .before .x .given .0 .0 .taken)
-took-d c = took _ _ (c .before .before .before .read-field .ensures) (c .before .before .before .before .of-denominator .ensures) _ (c .before .x .given .1)
+took-d c = took _ _ (c .before .before .before .read-field .ensures) (c .before .before .before .before .denominator-bounds .ensures) _ (c .before .x .given .1)
 
 took-n : (c : tie.After-known-told3) → Took (countBounds (roomOf (c .before .before .before .before .before .before .before .before .before .before .before .before .before .before .before .args .words .now))) (behind (c .before .before .before .before .before .before .before .before .before .before .before .before .before .before .before .args .table .now) (c .before .before .before .before .before .before .before .x .given .0 .0 .taken)) (c .before .x2 .given .0 .0 .value) (c .before .x2 .given .0 .0 .taken)
-took-n c = took _ _ (c .before .before .before .read-field2 .ensures) (c .before .before .before .before .of-count-within .ensures ∙ ap countBounds (c .before .before .before .before .before .before .before .before .before .before .before .room-of .ensures)) _ (c .before .x2 .given .1)
+took-n c = took _ _ (c .before .before .before .read-field2 .ensures) (c .before .before .before .before .count-bounds .ensures ∙ ap countBounds (c .before .before .before .before .before .before .before .before .before .before .before .room-of .ensures)) _ (c .before .x2 .given .1)
 
 room-of-requires : tie.Need-room-of-requires
 room-of-requires c κs = omega (arith, right maxPlaces _ (c .before .before .before .pre) .long)
 
-of-denominator-requires : tie.Need-of-denominator-requires
-of-denominator-requires c κs = search needs
+denominator-bounds-requires : tie.Need-denominator-bounds-requires
+denominator-bounds-requires c κs = search needs
 
 read-field-requires : tie.Need-read-field-requires
 read-field-requires c κs = search needs
@@ -50,7 +50,7 @@ same-length c = search needs
 
 returns : tie.Need-returns
 returns c =
-    let why = turned-down _ _ (c .before .before .before .before .before .before .before .read-field .ensures) (c .before .before .before .before .before .before .before .before .of-denominator .ensures) _ (c .before .before .before .before .before .c .given .1) in
+    let why = turned-down _ _ (c .before .before .before .before .before .before .before .read-field .ensures) (c .before .before .before .before .before .before .before .before .denominator-bounds .ensures) _ (c .before .before .before .before .before .c .given .1) in
     c .before .before .turn-down .ensures ∙ begun-stop _ _ _ _ (table-stop _ _ _ (stop-first _ _ _ _ (table-begins _ _) why))
 
 sub-from-n : tie.Need-sub-from-n
@@ -62,8 +62,8 @@ part-from-n-start c = took-d c .there
 part-from-n-end : tie.Need-part-from-n-end
 part-from-n-end c = search needs
 
-of-count-within-requires : tie.Need-of-count-within-requires
-of-count-within-requires c κs = search needs
+count-bounds-requires : tie.Need-count-bounds-requires
+count-bounds-requires c κs = search needs
 
 read-field-requires-2 : tie.Need-read-field-requires-2
 read-field-requires-2 c κs = search needs
@@ -82,7 +82,7 @@ same-length-2 c = search needs
 
 returns-2 : tie.Need-returns-2
 returns-2 c =
-    let why = turned-down _ _ (c .before .before .before .before .before .before .before .read-field2 .ensures) (c .before .before .before .before .before .before .before .before .of-count-within .ensures ∙ ap countBounds (c .before .before .before .before .before .before .before .before .before .before .before .before .before .before .before .room-of .ensures)) _ (c .before .before .before .before .before .c2 .given .1) in
+    let why = turned-down _ _ (c .before .before .before .before .before .before .before .read-field2 .ensures) (c .before .before .before .before .before .before .before .before .count-bounds .ensures ∙ ap countBounds (c .before .before .before .before .before .before .before .before .before .before .before .before .before .before .before .room-of .ensures)) _ (c .before .before .before .before .before .c2 .given .1) in
     let d = reach-first _ _ _ (table-begins _ _) (took-d (c .before .before .before .before .before .before .before .before .before .before)) in
     c .before .before .turn-down2 .ensures ∙ begun-stop _ _ _ _ (table-stop _ _ _ (reach-stop _ _ _ d _ why))
 
@@ -120,7 +120,7 @@ start-bytes-spec =
     tie.close
     (tie.spec
     room-of-requires
-    of-denominator-requires
+    denominator-bounds-requires
     read-field-requires
     enum-known-x
     enum-known-c
@@ -130,7 +130,7 @@ start-bytes-spec =
     sub-from-n
     part-from-n-start
     part-from-n-end
-    of-count-within-requires
+    count-bounds-requires
     read-field-requires-2
     enum-known-x-2
     enum-known-c-2

@@ -5,7 +5,7 @@ use Prim.Native.Nat.{_-_}
 use native.Mathlib.Omega.{arith}
 use borrow.Author.Needs.{needs}
 use lib.ListN.{length}
-use Rattle.arbiter.specs.Limits.{maxPlaces}
+use Rattle.terms.specs.Limits.{maxPlaces}
 use Rattle.table_bytes.specs.Reading.{rowOf}
 use Rattle.layout.specs.Words.{wordCount, roomOf}
 use Rattle.layout.proofs.RoundTrip.{right}
@@ -28,7 +28,7 @@ lay-head-requires : tie.Need-lay-head-requires Inv-loop μ-loop
 lay-head-requires c κs = c .before .before .before .pre .0
 
 loop-holds : tie.Need-loop-holds Inv-loop μ-loop
-loop-holds c = reading-none _ _ _ _ _ (long (c .before .before .before .before .before .before)) (c .before .words .given) (c .before .before .lay-head .ensures)
+loop-holds c = reading-none _ _ _ _ _ (long (c .before .before .before .before .before .before)) (c .before .words .given) (ap (λ s. s .table) (c .before .before .lay-head .ensures))
 
 read-row-requires : tie.Need-read-row-requires Inv-loop μ-loop
 read-row-requires c κs = search needs

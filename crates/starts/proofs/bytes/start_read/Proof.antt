@@ -1,6 +1,6 @@
 -- `starts::bytes::start_read` meets its contract. One gate, and then the start of the words. Assumes nothing.
 use borrow.Author.Tests.{eq-eqb, ne-eqb}
-use Rattle.arbiter.specs.Refusals.{gate}
+use Rattle.terms.specs.Refusals.{gate}
 use borrow.Author.Needs.{needs}
 use Rattle.starts.proofs.bytes.start_read.Statement.{statement}
 use Rattle.starts.proofs.bytes.start_read.Tie as tie
@@ -13,7 +13,7 @@ same-length c = search needs
 
 returns : tie.Need-returns
 unfolding gate
-returns c = rw (eq-eqb _ _ (c .before .before .before .before .if1 .taken)) (c .before .before .start-laid .ensures)
+returns c = rw (eq-eqb _ _ (c .before .before .before .before .if1 .taken)) (c .before .before .start-laid .ensures .0 (c .before .before .before .before .before .before .pre))
 
 turn-down-requires : tie.Need-turn-down-requires
 turn-down-requires c κs = search needs

@@ -2,7 +2,7 @@
 use mathlib.Core.Path.{ap, sym, _∙_}
 use native.Mathlib.Omega.{arith}
 use borrow.Author.Needs.{needs}
-use Rattle.arbiter.specs.Refusals.{verdictOf}
+use Rattle.terms.specs.Refusals.{verdictOf}
 use Rattle.table_bytes.proofs.Readings.{field-value, field-fault, field-stop}
 use Rattle.table_bytes.proofs.fields.read_field.Statement.{statement}
 use Rattle.table_bytes.proofs.fields.read_field.Tie as tie

@@ -2,20 +2,12 @@ use mathlib.Core.Path.{_≡_, sym, ap, _∙_}
 use mathlib.Core.Logic.{⊎-elim}
 use Prim.Native.Nat.{_-_}
 use native.Mathlib.Omega.{arith}
-use Rattle.arbiter.specs.State.{backlog}
+use Rattle.terms.specs.State.{backlog}
 use Rattle.layout.specs.Words.{rowIn, accountIn}
 use Rattle.rule.proofs.Accounts.{eligible-idle}
 use Rattle.walk.proofs.Walked.{Searching, searching-none, searching-turn, searching-more, found-room, found-grant, found-state, nobody-grant, nobody-state}
 use Rattle.walk.proofs.slot.one_slot.Statement.{statement}
 use Rattle.walk.proofs.slot.one_slot.Tie as tie
-use Rattle.walk.proofs.slot.one_slot.Reads as reads
-use Rattle.walk.proofs.slot.one_slot.Lts as lts
-use Rattle.layout.proofs.words.account.Reads as account-reads
-use Rattle.walk.proofs.turns.is_eligible_at.Reads as is-eligible-at-reads
-use Rattle.walk.proofs.turns.keep_at.Reads as keep-at-reads
-use Rattle.walk.proofs.turns.pass_at.Reads as pass-at-reads
-use Rattle.walk.proofs.turns.pass_from.Reads as pass-from-reads
-use Rattle.walk.proofs.turns.serve_at.Reads as serve-at-reads
 
 abbrev Inv-loop : tie.InvT-loop
 Inv-loop words₀ d n p₀ words p = Searching words₀ d n words p

@@ -1,16 +1,11 @@
 use mathlib.Core.Path.{sym, ap, _∙_}
 use native.Mathlib.Omega.{arith}
-use Rattle.arbiter.specs.State.{backlog}
+use Rattle.terms.specs.State.{backlog}
 use Rattle.layout.specs.Words.{rowIn, accountIn}
 use Rattle.rule.proofs.Accounts.{eligible-idle}
 use borrow.Author.Needs.{needs}
 use Rattle.walk.proofs.turns.is_eligible_at.Statement.{statement}
 use Rattle.walk.proofs.turns.is_eligible_at.Tie as tie
-use Rattle.walk.proofs.turns.is_eligible_at.Reads as reads
-use Rattle.walk.proofs.turns.is_eligible_at.Lts as lts
-use Rattle.layout.proofs.words.account.Reads as account-reads
-use Rattle.layout.proofs.words.requestor.Reads as requestor-reads
-use Rattle.rule.proofs.rule.is_eligible.Reads as is-eligible-reads
 
 account-requires : tie.Need-account-requires
 account-requires c κs = search needs

@@ -1,17 +1,12 @@
 use mathlib.Core.Path.{sym, ap, _∙_}
 use native.Mathlib.Omega.{arith}
-use Rattle.arbiter.specs.Table.{rate}
-use Rattle.arbiter.specs.State.{credit}
+use Rattle.terms.specs.Table.{rate}
+use Rattle.terms.specs.State.{credit}
 use Rattle.layout.specs.Words.{rowIn, accountIn, putAccount}
 use Rattle.rule.proofs.Accounts.{passed-waiting}
 use borrow.Author.Needs.{needs}
 use Rattle.walk.proofs.turns.keep_at.Statement.{statement}
 use Rattle.walk.proofs.turns.keep_at.Tie as tie
-use Rattle.walk.proofs.turns.keep_at.Reads as reads
-use Rattle.walk.proofs.turns.keep_at.Lts as lts
-use Rattle.layout.proofs.words.account.Reads as account-reads
-use Rattle.layout.proofs.words.put_account.Reads as put-account-reads
-use Rattle.layout.proofs.words.requestor.Reads as requestor-reads
 
 requestor-requires : tie.Need-requestor-requires
 requestor-requires c κs = search needs

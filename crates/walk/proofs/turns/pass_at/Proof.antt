@@ -2,12 +2,6 @@ use mathlib.Core.Path.{_∙_}
 use borrow.Author.Needs.{needs}
 use Rattle.walk.proofs.turns.pass_at.Statement.{statement}
 use Rattle.walk.proofs.turns.pass_at.Tie as tie
-use Rattle.walk.proofs.turns.pass_at.Reads as reads
-use Rattle.walk.proofs.turns.pass_at.Lts as lts
-use Rattle.layout.proofs.words.account.Reads as account-reads
-use Rattle.layout.proofs.words.put_account.Reads as put-account-reads
-use Rattle.layout.proofs.words.requestor.Reads as requestor-reads
-use Rattle.rule.proofs.rule.pass.Reads as pass-reads
 
 requestor-requires : tie.Need-requestor-requires
 requestor-requires c κs = search needs

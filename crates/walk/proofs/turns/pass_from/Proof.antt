@@ -1,12 +1,8 @@
 use Prim.Native.Nat.{_-_}
 use native.Mathlib.Omega.{arith}
-use Rattle.walk.specs.Walk.{Roomy}
 use Rattle.walk.proofs.Walked.{Passing, passing-none, passing-turn, passing-more, passing-end}
 use Rattle.walk.proofs.turns.pass_from.Statement.{statement}
 use Rattle.walk.proofs.turns.pass_from.Tie as tie
-use Rattle.walk.proofs.turns.pass_from.Reads as reads
-use Rattle.walk.proofs.turns.pass_from.Lts as lts
-use Rattle.walk.proofs.turns.pass_at.Reads as pass-at-reads
 
 abbrev Inv-loop : tie.InvT-loop
 Inv-loop words₀ from n p₀ words p = Passing words₀ from n words p

@@ -1,8 +1,0 @@
--- Document 01's check 13: neither a log nor the program's input may have more than 65,536 bytes.
-use Prim.Native.Nat.{ℕ}
-use lib.Dec.{leb}
-use Rattle.arbiter.specs.Limits.{maxInput}
-use Rattle.arbiter.specs.Refusals.{Verdict, faultless, refusal, gate}
-
-unfoldable pub inputVerdict : (bytes : ℕ) → Verdict
-inputVerdict bytes = gate (refusal 13) (leb bytes maxInput) faultless

@@ -1,2 +1,0 @@
--- The lead of a place over a log.
-pub mod Lead

@@ -1,0 +1,2 @@
+-- The laws of a start's end: the accounts of words are opened, place after place.
+pub mod Opened

@@ -1,0 +1,2 @@
+-- What `replay` writes, answer by answer.
+pub mod Written

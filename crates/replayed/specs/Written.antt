@@ -1,0 +1,73 @@
+-- Demand 3 on numbers: what `replay`'s code wrote on one side, the floor and the ceiling on the other. An answer is three numbers: 1, the
+-- stamp and the place for a grant; 2, the stamp and 0 for an idle slot; 0 or 3 in front for what is no slot.
+use mathlib.Core.Path.{_≡_}
+use mathlib.Core.List.{List, [], _∷_}
+use Prim.Native.Nat.{ℕ, _+_, _*_, _≤_, _<_}
+use lib.Dec.{ltb, eqb}
+use lib.ListN.{length, take, drop}
+use Rattle.lists.specs.Choices.{pick, inRange}
+use Rattle.terms.specs.Table.{Table, requestorsOf}
+use Rattle.lists.specs.Runs.{answers}
+use Rattle.terms.specs.State.{State, credit, accountAt}
+use Rattle.terms.specs.Answers.{Answer, accepted, startAnswerOf}
+use Rattle.arbiter.specs.ByValue.{held}
+use Rattle.arbiter.specs.declared.start.StartResult.{StartResult}
+use Rattle.rule.specs.Calls.{Call, ruled}
+use Rattle.guarantees.specs.Counts.{slotsIn, grantsTo, grantsToFirst, Waits}
+use Rattle.guarantees.specs.Demand3.{Ceiling, Floor, ruledAfter}
+use Rattle.replay.specs.Replay.{wordsOf, madeCalls, replay, replayedOf}
+
+-- f of each answer's three numbers, added up; one or two numbers left at the end are no answer
+unfoldable pub threes : (ℕ → ℕ → ℕ → ℕ) → List ℕ → ℕ
+threes f [] = 0
+threes f (what ∷ []) = 0
+threes f (what ∷ stamp ∷ []) = 0
+threes f (what ∷ stamp ∷ place ∷ numbers) = f what stamp place + threes f numbers
+
+-- the accepted slots
+abbrev pub slotsTold : List ℕ → ℕ
+slotsTold = threes (λ what stamp place. pick (inRange 1 2 what) 1 0)
+
+-- the transfers granted to place p
+abbrev pub grantsTold : ℕ → List ℕ → ℕ
+grantsTold p = threes (λ what stamp place. pick (eqb what 1) (pick (eqb place p) 1 0) 0)
+
+-- the transfers granted to the first k places
+abbrev pub grantsToldToFirst : ℕ → List ℕ → ℕ
+grantsToldToFirst k = threes (λ what stamp place. pick (eqb what 1) (pick (ltb place k) 1 0) 0)
+
+-- the numbers of m answers that stand behind i others
+abbrev pub answersTold : (i m : ℕ) → List ℕ → List ℕ
+answersTold i m words = take (3 * m) (drop (3 * i) words)
+
+-- so counted, the numbers of answers say what the answers say
+abbrev pub Told-counts : Type 0
+Told-counts =
+    (heard : List Answer)
+    → (slotsTold (wordsOf heard) ≡ slotsIn heard)
+    × ((p : ℕ) → grantsTold p (wordsOf heard) ≡ grantsTo p heard)
+    × ((k : ℕ) → grantsToldToFirst k (wordsOf heard) ≡ grantsToFirst k heard)
+
+-- what a stretch's numbers keep to: `before` leads to the stretch, and `inside` holds its calls
+pub record Kept (t : Table) (first : ℕ) (before inside : List Call) (numbers : List ℕ) : Type 0 where
+  -- they are the rule's answers
+  pub by-rule : numbers ≡ wordsOf (answers ruled (ruledAfter t first before) inside)
+  pub ceiling : (k : ℕ) → 1 ≤ k → k ≤ t .count → Ceiling (t .denominator) (requestorsOf t) k (slotsTold numbers) (grantsToldToFirst k numbers)
+  pub floor : (p : ℕ) → p < t .count → Waits p (ruledAfter t first before) inside
+      → t .denominator ≤ credit (accountAt p (ruledAfter t first before .accounts))
+      → Floor (t .denominator) (requestorsOf t) p (slotsTold numbers) (grantsTold p numbers)
+
+-- what the calls that were made keep to: the state at their end is the rule's, and so is every stretch of them
+pub record Keeps (t : Table) (first : ℕ) (made : List Call) (state : State) (words : List ℕ) : Type 0 where
+  pub ends : state ≡ ruledAfter t first made
+  pub stretch : (i m : ℕ) → i + m ≤ length made → Kept t first (take i made) (take m (drop i made)) (answersTold i m words)
+
+-- The contract of `replay` is the equation here: r is what the code handed back, and `words` what it left in the lent answers. If it
+-- answers that it started, the state that it handed back is the rule's, and every stretch of the calls that it made keeps to demand 3 in
+-- the numbers that it wrote.
+abbrev pub Replay-keeps-demand-3 : Type 0
+Replay-keeps-demand-3 =
+    (limit : ℕ) (t : Table) (first : ℕ) (calls old : List ℕ) (r : StartResult) (words : List ℕ) → length (t .requestors) ≡ limit
+    → replayedOf r words ≡ replay limit t first calls old
+    → startAnswerOf (r .answer) ≡ accepted
+    → Keeps t first (madeCalls calls old) (held (r .state)) words

@@ -1,0 +1,168 @@
+-- What checks that find no fault say. Assumes nothing.
+use mathlib.Core.Path.{_≡_, refl, ap, sym, _∙_}
+use mathlib.Core.Bool.{Bool, true, false}
+use mathlib.Core.List.{List, [], _∷_}
+use Prim.Native.Nat.{ℕ, zero, suc, _+_, _*_, _≤_, _<_}
+use native.Mathlib.Nat.{mul-le-mul-right, not-suc-le-zero, zero-add, add-zero, add-suc, suc-add}
+use native.Mathlib.Omega.{arith}
+use borrow.Author.Tests.{leb-true}
+use lib.ListN.{length, drop, length-take}
+use Rattle.lists.specs.Sums.{total, every}
+use Rattle.lists.proofs.Sums.{total-most}
+use Rattle.lists.proofs.Tests.{in-range-true, in-range}
+use Rattle.terms.specs.declared.refusals.Refusal.{Refusal}
+use Rattle.terms.specs.declared.place.Requestor.{Requestor}
+use Rattle.terms.specs.Table.{Table, Bounds, denominatorBounds, countBounds, rateBounds, burstBounds, needBounds, withinBounds, heldTo, rate, burst, noRequestor, requestorClear, requestorAt, requestorsOf, rowVerdict, eachPlace, tailVerdict, rateSumVerdict, tableVerdict}
+use Rattle.terms.specs.Limits.{maxDenominator, maxBurst, maxNeed, maxWithin}
+use Rattle.terms.specs.Refusals.{Verdict, faultless, fault, gate, then}
+use Rattle.terms.specs.Figures.{finish, finishVerdict, admissionVerdict}
+
+-- no verdict is both
+pub faultless-fault : {X : Type 0} (r : Refusal) → faultless ≡ fault r → X
+faultless-fault r e = let z : _≡_ {A = ℕ} 0 1 = cc in absurd (omega arith)
+
+pub gate-open : (r : Refusal) (test : Bool) (rest : Verdict) → gate r test rest ≡ faultless → (test ≡ true) × (rest ≡ faultless)
+unfolding gate
+gate-open r true rest e = (refl, e)
+gate-open r false rest e = faultless-fault r (sym e)
+
+pub then-open : (v rest : Verdict) → then v rest ≡ faultless → (v ≡ faultless) × (rest ≡ faultless)
+unfolding then
+then-open faultless rest e = (refl, e)
+then-open (fault r) rest e = faultless-fault r (sym e)
+
+-- a check whose refusal has another number does not find this one
+pub gate-not : (r other : Refusal) (test : Bool) (rest : Verdict) → (r .number ≡ other .number → ⊥) → (rest ≡ fault other → ⊥)
+    → gate r test rest ≡ fault other → ⊥
+unfolding gate
+gate-not r other true rest apart below e = below e
+gate-not r other false rest apart below e = let same : r ≡ other = cc in apart (ap (λ x. x .number) same)
+
+pub gate-passed : (r : Refusal) (test : Bool) (rest : Verdict) → test ≡ true → gate r test rest ≡ rest
+unfolding gate
+gate-passed r test rest e = rw e
+
+-- a fault that two series of checks find is found, whatever comes after them
+pub two-fault : (v w rest : Verdict) (r : Refusal) → then v w ≡ fault r → then v (then w rest) ≡ fault r
+unfolding then
+two-fault faultless w rest r e = rw e
+two-fault (fault x) w rest r e = e
+
+-- a number passes its bounds when it is within them, and only then
+pub held-open : (b : Bounds) (x : ℕ) → heldTo b x ≡ faultless → (b .low ≤ x) × (x ≤ b .high)
+unfolding heldTo
+held-open b x e = in-range-true _ _ _ (gate-open _ _ _ e .0)
+
+pub held : (b : Bounds) (x : ℕ) → b .low ≤ x → x ≤ b .high → heldTo b x ≡ faultless
+unfolding heldTo
+held b x low high = gate-passed _ _ _ (in-range low high)
+
+-- the code's bounds are those of the field
+pub held-by : (v : Verdict) (b field : Bounds) (x : ℕ) → v ≡ heldTo b x → b ≡ field → v ≡ heldTo field x
+held-by v b field x e f = e ∙ ap (λ y. heldTo y x) f
+
+-- a check that passes place by place passes at each place
+pub each-place-at : (check : ℕ → Requestor → Verdict) (p : ℕ) (rs : List Requestor) → eachPlace check p rs ≡ faultless
+    → (i : ℕ) → i < length rs → check (p + i) (requestorAt i rs) ≡ faultless
+unfolding eachPlace
+each-place-at check p [] e i h = absurd (not-suc-le-zero h)
+each-place-at check p (r ∷ rs) e zero h = rw add-zero (then-open (check p r) (eachPlace check (suc p) rs) e .0)
+each-place-at check p (r ∷ rs) e (suc i) h = rw (add-suc, ← suc-add) (each-place-at check (suc p) rs (then-open (check p r) (eachPlace check (suc p) rs) e .1) i (omega arith))
+
+-- a row within its limits
+pub record Row (d : ℕ) (r : Requestor) : Type 0 where
+  pub rate-least : 1 ≤ r .rate
+  pub rate-most : r .rate ≤ d
+  pub burst-least : d ≤ r .burst
+  pub burst-most : r .burst ≤ maxBurst
+  pub need-least : 1 ≤ r .need .0
+  pub need-most : r .need .0 ≤ maxNeed
+  pub within-least : 1 ≤ r .within .0
+  pub within-most : r .within .0 ≤ maxWithin
+
+pub row-open : (d p : ℕ) (r : Requestor) → rowVerdict d p r ≡ faultless → Row d r
+unfolding rowVerdict
+row-open d p r e =
+    let a = then-open _ _ e in
+    let b = then-open _ _ (a .1) in
+    let c = then-open _ _ (b .1) in
+    let ra = held-open (rateBounds d p) _ (a .0) in
+    let bu = held-open (burstBounds d p) _ (b .0) in
+    let ne = held-open (needBounds p) _ (c .0) in
+    let wi = held-open (withinBounds p) _ (c .1) in
+    record {
+      rate-least = ra .0;
+      rate-most = ra .1;
+      burst-least = bu .0;
+      burst-most = bu .1;
+      need-least = ne .0;
+      need-most = ne .1;
+      within-least = wi .0;
+      within-most = wi .1;
+    }
+
+-- what each of checks 1 to 6 says of a table that passes them all
+pub record Passed (limit : ℕ) (t : Table) : Type 0 where
+  pub denominator : heldTo denominatorBounds (t .denominator) ≡ faultless
+  pub count : heldTo (countBounds limit) (t .count) ≡ faultless
+  pub clear : every requestorClear (drop (t .count) (t .requestors)) ≡ true
+  pub rows : eachPlace (rowVerdict (t .denominator)) 0 (requestorsOf t) ≡ faultless
+  pub sum : rateSumVerdict t ≡ faultless
+
+pub passed : (limit : ℕ) (t : Table) → tableVerdict limit t ≡ faultless → Passed limit t
+unfolding tableVerdict tailVerdict
+passed limit t e =
+    let a = then-open _ _ e in
+    let b = then-open _ _ (a .1) in
+    let c = then-open _ _ (b .1) in
+    let f = then-open _ _ (c .1) in
+    record { denominator = a .0; count = b .0; clear = gate-open _ _ _ (c .0) .0; rows = f .0; sum = f .1 }
+
+-- a table that passes checks 1 to 6, in numbers
+pub record Fair (limit : ℕ) (t : Table) : Type 0 where
+  pub denominator-least : 1 ≤ t .denominator
+  pub denominator-most : t .denominator ≤ maxDenominator
+  pub count-least : 1 ≤ t .count
+  pub count-most : t .count ≤ limit
+  pub clear : every requestorClear (drop (t .count) (t .requestors)) ≡ true
+  pub row : (p : ℕ) → p < length (requestorsOf t) → Row (t .denominator) (requestorAt p (requestorsOf t))
+  pub rate-sum : total rate (requestorsOf t) ≤ t .denominator
+
+pub fair : (limit : ℕ) (t : Table) → tableVerdict limit t ≡ faultless → Fair limit t
+unfolding rateSumVerdict
+fair limit t e =
+    let p = passed limit t e in
+    let d = held-open denominatorBounds _ (p .denominator) in
+    let n = held-open (countBounds limit) _ (p .count) in
+    record {
+      denominator-least = d .0;
+      denominator-most = d .1;
+      count-least = n .0;
+      count-most = n .1;
+      clear = p .clear;
+      row = λ q h. row-open _ (0 + q) _ (each-place-at (rowVerdict (t .denominator)) 0 (requestorsOf t) (p .rows) q h);
+      rate-sum = leb-true _ _ (gate-open _ _ _ (p .sum) .0);
+    }
+
+-- the rates of rows within their limits, and the bursts of a table within its own
+pub rates-fit : (d : ℕ) (rs : List Requestor) → eachPlace (rowVerdict d) 0 rs ≡ faultless → total rate rs ≤ length rs * d
+rates-fit d rs e = total-most rate noRequestor d rs (λ p h. row-open d (0 + p) _ (each-place-at (rowVerdict d) 0 rs e p h) .rate-most)
+
+pub bursts-fit : (limit : ℕ) (t : Table) → Fair limit t → total burst (requestorsOf t) ≤ limit * maxBurst
+bursts-fit limit t f =
+    let few : length (requestorsOf t) ≤ limit = omega (arith, length-take (t .count) (t .requestors), f .count-most) in
+    omega (arith, total-most burst noRequestor maxBurst (requestorsOf t) (λ p h. f .row p h .burst-most), mul-le-mul-right maxBurst few)
+
+-- a table that passes admission: checks 1 to 6, and each need holds
+pub record Admitted (limit : ℕ) (t : Table) : Type 0 where
+  pub passes : tableVerdict limit t ≡ faultless
+  pub need : (p : ℕ) → p < length (requestorsOf t) → finish (t .denominator) (requestorsOf t) p (requestorAt p (requestorsOf t) .need .0) ≤ requestorAt p (requestorsOf t) .within .0
+
+pub admitted : (limit : ℕ) (t : Table) → admissionVerdict limit t ≡ faultless → Admitted limit t
+unfolding admissionVerdict finishVerdict
+admitted limit t e =
+    let a = then-open _ _ e in
+    record {
+      passes = a .0;
+      need = λ p h. leb-true _ _ (gate-open _ _ _ (rw (zero-add p) at (each-place-at (finishVerdict (t .denominator) (requestorsOf t)) 0 (requestorsOf t) (a .1) p h)) .0);
+    }

@@ -1,0 +1,7 @@
+-- Laws that belong to no one function: refusals, checks, walks over places, sums above a place, and sound states.
+pub mod Causes
+pub mod Checks
+pub mod AsTests
+pub mod Places
+pub mod Above
+pub mod Sound

@@ -1,0 +1,53 @@
+-- Document 01, "Wait, finish and lead": the sums above a place, the wait, the finish figure, and check 7.
+use mathlib.Core.List.{List}
+use Prim.Native.Nat.{ℕ, _+_, _-_, _*_, _/_}
+use lib.Dec.{leb}
+use lib.ListN.{take}
+use Rattle.lists.specs.Sums.{total}
+use Rattle.terms.specs.declared.place.Requestor.{Requestor}
+use Rattle.terms.specs.Table.{Table, rate, burst, requestorAt, requestorsOf, eachPlace, tableVerdict}
+use Rattle.terms.specs.Refusals.{Verdict, faultless, refusalAt, gate, then}
+
+-- a / b, rounded up
+unfoldable pub roundedUp : ℕ → ℕ → ℕ
+roundedUp a b = (a + (b - 1)) / b
+
+-- B, the sum of the bursts above place p
+abbrev pub burstsAbove : ℕ → List Requestor → ℕ
+burstsAbove p rs = total burst (take p rs)
+
+-- the sum of the rates above place p
+abbrev pub ratesAbove : ℕ → List Requestor → ℕ
+ratesAbove p rs = total rate (take p rs)
+
+-- R, D less the sum of the rates above place p
+abbrev pub rateLeft : ℕ → ℕ → List Requestor → ℕ
+rateLeft d p rs = d - ratesAbove p rs
+
+-- the reported wait: B / R, which is Θ in source documents 000 and 003, rounded up
+abbrev pub waitOf : ℕ → ℕ → ℕ
+waitOf B R = roundedUp B R
+
+-- the reported wait of place p
+abbrev pub wait : ℕ → List Requestor → ℕ → ℕ
+wait d rs p = waitOf (burstsAbove p rs) (rateLeft d p rs)
+
+-- the finish figure for j transfers at rate n: the reported wait, and j × D / n rounded up
+abbrev pub finishOf : ℕ → ℕ → ℕ → ℕ → ℕ → ℕ
+finishOf d B R n j = waitOf B R + roundedUp (j * d) n
+
+-- the finish figure of place p for j transfers
+unfoldable pub finish : ℕ → List Requestor → ℕ → ℕ → ℕ
+finish d rs p j = finishOf d (burstsAbove p rs) (rateLeft d p rs) (requestorAt p rs .rate) j
+
+-- check 7 of the requestor r at place p
+unfoldable pub finishVerdict : ℕ → List Requestor → ℕ → Requestor → Verdict
+finishVerdict d rs p r = gate (refusalAt 7 p) (leb (finish d rs p (r .need .0)) (r .within .0)) faultless
+
+-- check 7, with the lowest failing place
+abbrev pub finishesVerdict : Table → Verdict
+finishesVerdict t = eachPlace (finishVerdict (t .denominator) (requestorsOf t)) 0 (requestorsOf t)
+
+-- the checks of a table given as numbers: 1 to 6, then 7
+unfoldable pub admissionVerdict : ℕ → Table → Verdict
+admissionVerdict limit t = then (tableVerdict limit t) (finishesVerdict t)
