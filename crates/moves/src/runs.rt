@@ -1,4 +1,4 @@
-// A run: as many slots as a lent log has bytes. The words are tested once; each slot is given only the unwritten rest of the log.
+// A run: as many slots as a lent log has bytes. The words are tested once, and each slot is lent the log from its own byte on.
 use crate::slots::advance;
 use arbiter::state::Arbiter;
 use layout::words::count;

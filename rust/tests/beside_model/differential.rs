@@ -271,14 +271,7 @@ fn damaged_words<const ROOM: usize>() {
         damage(&mut chance, &mut words);
         Pair::<ROOM>::of(state_of(&words)).make_any(&mut chance, 3, &mut tally);
     }
-    tally.expect("post", &[0, 11, 21, 23]);
-    tally.expect("slot", &[0, 22, 23]);
-    tally.expect("run", &[0, 13, 22, 23]);
-    tally.expect("figures", &[0, 5, 11, 23]);
-    tally.expect("lead", &[0, 11, 13, 23]);
-    tally.expect("write", &[0, 7, 14, 23]);
-    tally.expect("account", &[0, 11, 23]);
-    tally.expect("standing", &[0, 23]);
+    tally.expect_all_on_a_state();
 }
 
 /// Every word of one state by itself, at edges near it and far: one whose low 32 bits are the old ones among them.

@@ -35,14 +35,7 @@ fn calls_in_two_rooms<const ROOM: usize, const LARGER: usize>() {
             tally.add(call.name(), &told.answer);
         }
     }
-    tally.expect("post", &[0, 11, 21, 23]);
-    tally.expect("slot", &[0, 22, 23]);
-    tally.expect("run", &[0, 13, 22, 23]);
-    tally.expect("figures", &[0, 5, 11, 23]);
-    tally.expect("lead", &[0, 11, 13, 23]);
-    tally.expect("write", &[0, 7, 14, 23]);
-    tally.expect("account", &[0, 11, 23]);
-    tally.expect("standing", &[0, 23]);
+    tally.expect_all_on_a_state();
 }
 
 #[test]

@@ -12,6 +12,18 @@ impl Tally {
         self.0.entry(call).or_default().insert(number);
     }
 
+    /// Every refusal of every call that is made on a state came up, and every call was accepted too.
+    pub fn expect_all_on_a_state(&self) {
+        self.expect("post", &[0, 11, 21, 23]);
+        self.expect("slot", &[0, 22, 23]);
+        self.expect("run", &[0, 13, 22, 23]);
+        self.expect("figures", &[0, 5, 11, 23]);
+        self.expect("lead", &[0, 11, 13, 23]);
+        self.expect("write", &[0, 7, 14, 23]);
+        self.expect("account", &[0, 11, 23]);
+        self.expect("standing", &[0, 23]);
+    }
+
     /// The call came to exactly these.
     pub fn expect(&self, call: &str, numbers: &[u8]) {
         let seen: Vec<u8> = self.0.get(call).into_iter().flatten().copied().collect();
