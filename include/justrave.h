@@ -32,8 +32,8 @@
  * The stack. The library follows the System V calling convention of x86-64. It finds the stack aligned to 16 bytes, as every caller
  * leaves it, and keeps it so; and it uses the red zone, the 128 bytes below the stack pointer. An interrupt handler that runs on the same
  * stack must skip these 128 bytes before it writes, as the handlers of a process's signals do. How many bytes of stack an accepted
- * call takes, its return address and the red zone included, measured with 16 places by tests/stack: a start from bytes 1,408, one from
- * numbers 1,232, a write 1,088, figures 640, a run and a lead 128, a slot 112, a post, an account and a standing 96. JUSTRAVE_STACK is
+ * call takes, its return address and the red zone included, measured with 16 places by tests/stack: a start from bytes 1,232, one from
+ * numbers 1,056, a write 960, figures 624, a run and a lead 128, a slot 112, a post, an account and a standing 96. JUSTRAVE_STACK is
  * more than each.
  */
 #ifndef JUSTRAVE_H
@@ -187,7 +187,9 @@ uint64_t justrave_run(uint64_t *state, size_t state_length, uint8_t *log, size_t
 
 /*
  * Answers two numbers of slots. The wait: at most so many slots in a row go to the places above. The finish figure: where at least
- * `transfers`, 1 to 255, wait at the place, as many are granted to it within that figure. Refused 255, 23, 11, 5.
+ * `transfers`, 1 to 255, wait at the place, as many are granted to it within that figure. The wait is B / R rounded up: B is the
+ * sum of the bursts above the place, R what the rates above it leave of D. The finish figure is the sum of the fractions B / R and
+ * transfers x D / rate, and only that sum is rounded up. Refused 255, 23, 11, 5.
  */
 uint64_t justrave_figures(const uint64_t *state, size_t state_length, size_t place, uint64_t transfers, uint64_t *answer,
                           size_t answer_length);

@@ -65,7 +65,8 @@ pub enum SlotAnswer {
 pub struct Figures {
     /// The wait, rounded up to whole slots: at most so many slots in a row go to the places above.
     pub wait: Slots,
-    /// The finish figure: where at least as many transfers wait as were asked about, so many are granted within these slots.
+    /// The finish figure: where at least as many transfers wait as were asked about, so many are granted within these slots. It is the
+    /// wait before it is rounded plus the time of the transfers at the place's rate, and only the sum is rounded up.
     pub finish: Slots,
 }
 

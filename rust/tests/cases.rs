@@ -111,7 +111,13 @@ fn case_10_the_last_slot() {
 #[test]
 fn case_11_a_finish_figure() {
     let line = started(&[5, 2, 1, 6, 1, 100, 2, 5, 1, 100]);
-    assert_eq!(line.figures(1, Transfers(1)), Ok(Figures { wait: Slots(2), finish: Slots(5) }));
+    assert_eq!(line.figures(1, Transfers(1)), Ok(Figures { wait: Slots(2), finish: Slots(4) }));
+}
+
+#[test]
+fn request_1_a_probe_with_one_slot_less() {
+    started(&[5, 2, 1, 6, 1, 5, 2, 5, 1, 4]);
+    assert_eq!(refused(&[5, 2, 1, 6, 1, 5, 2, 5, 1, 3]), (7, Some(1)));
 }
 
 #[test]

@@ -10,7 +10,7 @@ use lib.ListN.{length, take, getD}
 use Rattle.lists.specs.Sums.{total}
 use Rattle.lists.proofs.Sums.{total-take-pred}
 use Rattle.terms.specs.declared.place.Requestor.{Requestor}
-use Rattle.terms.specs.Limits.{maxBurst, maxNeed, maxDenominator}
+use Rattle.terms.specs.Limits.{maxBurst, maxNeed, maxWithin, maxDenominator}
 use Rattle.terms.specs.Table.{noRequestor, requestorAt, requestorsOf}
 use Rattle.terms.specs.Figures.{burstsAbove, ratesAbove, finishOf, finish}
 use Rattle.terms.proofs.Above.{above}
@@ -68,6 +68,7 @@ pub record Placed (most : ℕ) (words : List ℕ) (p : ℕ) : Type 0 where
   pub denominator-most : tableIn words .denominator ≤ maxDenominator
   pub own-rate : 1 ≤ rowIn words p .rate
   pub own-need : rowIn words p .need .0 ≤ maxNeed
+  pub own-within : rowIn words p .within .0 ≤ maxWithin
   pub rates : ratesAbove p (rowsIn words) + rowIn words p .rate ≤ tableIn words .denominator
   pub bursts-most : burstsAbove p (rowsIn words) ≤ most * maxBurst
   -- the rows of places 0 to N−1 are the same up to here
@@ -85,6 +86,7 @@ placed most words p k h =
       denominator-most = a .denominator-most;
       own-rate = rw row at (a .own-rate);
       own-need = rw row at (a .own-need);
+      own-within = rw row at (a .own-within);
       rates = rw row at (a .rates);
       bursts-most = omega (arith, a .bursts-most, mul-le-mul-right maxBurst (r .room-most));
       same-rates = a .same-rates;

@@ -7,9 +7,10 @@ use terms::units::Slots;
 use terms::units::Transfers;
 ghost use mathlib.Core.Path.{_≡_};
 ghost use Prim.Native.Nat.{ℕ, _+_, _≤_, _<_, _^_};
-ghost use Rattle.terms.specs.Limits.{maxPlaces, maxNeed};
+ghost use lib.Dec.{leb};
+ghost use Rattle.terms.specs.Limits.{maxPlaces, maxNeed, maxWithin};
 ghost use Rattle.terms.specs.Table.{requestorsOf};
-ghost use Rattle.terms.specs.Figures.{roundedUp, wait, finishOf, finish};
+ghost use Rattle.terms.specs.Figures.{roundedUp, wait, finishOf, finish, mostFinish};
 ghost use Rattle.admission.specs.Checked.{tableIn, Checked, Parts};
 
 // a / b, rounded up.
@@ -31,20 +32,30 @@ pub fn wait(words: &[u64], p: usize) -> Slots
     Slots(rounded_up(bursts_above(words, p), left))
 }
 
-// The finish figure of its parts, B, R, the place's own rate n and j: the wait, and j * D / n rounded up.
-pub fn finish_of(d: u64, bursts: u64, left: u64, n: u64, j: Transfers) -> Slots
+// The finish figure of its parts, B, R, the place's own rate n and j: B / R and j * D / n over one divisor, so that only their sum is
+// rounded up.
+fn finish_of(d: u64, bursts: u64, left: u64, n: u64, j: Transfers) -> Slots
     requires { ⌜ Parts maxPlaces d bursts left n (j .0) ⌝ }
-    ensures { λ r. ⌜ r .0 ≡ finishOf d bursts left n (j .0) ⌝ }
+    ensures figure { λ r. ⌜ r .0 ≡ finishOf d bursts left n (j .0) ⌝ }
+    ensures small { λ r. ⌜ r .0 ≤ mostFinish maxPlaces ⌝ }
 {
-    let waiting = rounded_up(bursts, left);
-    let transfers = rounded_up(j.0 * d, n);
-    Slots(waiting + transfers)
+    Slots(rounded_up(bursts * n + j.0 * d * left, left * n))
+}
+
+// Whether the finish figure of these parts is at most L. So it is exactly if L slots, taken left * n times, are not below the sum, and
+// nothing is divided.
+pub fn finish_is_within(d: u64, bursts: u64, left: u64, n: u64, j: Transfers, within: Slots) -> bool
+    requires { ⌜ Parts maxPlaces d bursts left n (j .0) × (within .0 ≤ maxWithin) ⌝ }
+    ensures { λ b. ⌜ b ≡ leb (finishOf d bursts left n (j .0)) (within .0) ⌝ }
+{
+    bursts * n + j.0 * d * left <= left * n * within.0
 }
 
 // The finish figure of place p for j transfers.
 pub fn finish(words: &[u64], p: usize, j: Transfers) -> Slots
     requires { ⌜ Checked maxPlaces (now words) × (p < tableIn (now words) .count) × (j .0 ≤ maxNeed) ⌝ }
-    ensures { λ r. ⌜ r .0 ≡ finish (tableIn (now (words .entry)) .denominator) (requestorsOf (tableIn (now (words .entry)))) p (j .0) ⌝ }
+    ensures figure { λ r. ⌜ r .0 ≡ finish (tableIn (now (words .entry)) .denominator) (requestorsOf (tableIn (now (words .entry)))) p (j .0) ⌝ }
+    ensures small { λ r. ⌜ r .0 ≤ mostFinish maxPlaces ⌝ }
 {
     let d = denominator(words);
     let n = rate(words, p);

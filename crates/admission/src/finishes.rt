@@ -1,5 +1,5 @@
 // Check 7.
-use crate::figures::finish_of;
+use crate::figures::finish_is_within;
 use crate::sums::bursts_above;
 use crate::sums::rates_above;
 use layout::words::burst;
@@ -29,11 +29,10 @@ fn check_finish(words: &[u64], p: usize, bursts: u64, rates: u64) -> Verdict
     let r = requestor(words, p);
     let need = r.need;
     let within = r.within;
-    let figure = finish_of(d, bursts, d - rates, r.rate, need);
-    if within.0 < figure.0 {
-        return Verdict::Fault(Cause::Input(InputRefusal::Finish(p)));
+    if finish_is_within(d, bursts, d - rates, r.rate, need, within) {
+        return Verdict::Faultless;
     }
-    Verdict::Faultless
+    Verdict::Fault(Cause::Input(InputRefusal::Finish(p)))
 }
 
 // Check 7, from the last place up: the sums above it are worked out once, and then less one place at each turn. The lowest place that

@@ -18,6 +18,7 @@ use Rattle.rule.specs.Rule.{eligible, later, firstEligible, served, passed, aft
 use Rattle.rule.specs.Grants.{toPlace}
 use Rattle.rule.specs.Calls.{grantOf, advanced, withCount, withPost, done, ruleVerdict, called}
 use Rattle.rule.specs.Log.{slotsState, slotsLog, slotsVerdict, runVerdict, run}
+use Rattle.guarantees.specs.FinishFigure.{formerFinish, formerFinishVerdict, formerVerdict}
 use Rattle.replay.specs.Replay.{callOf, callsOf, madeCalls, answerWords, callsFrom, continued, replay}
 use Rattle.lines.specs.Text.{digitsOf, decimal, spaced, line}
 use Rattle.lines.specs.Lines.{header, endLine, refusedLine, slotLine}
@@ -29,8 +30,9 @@ use Rattle.cases.specs.EdgeRows.{tableFirst, tableSecond, tablePastTwo, 
 use Rattle.cases.specs.BytesRows.{tableLong, bytesLong, tableFull, bytesPlaces, tablePast, tableWide, old, marked, ratesT, burstsT, needsT, withinsT, single, unwritten, unread, numberRows, takeRows, lendRows, readRows, writeRows, refusedWriteRows, changedWriteRows, orderedWriteRows}
 use Rattle.cases.specs.LogRows.{startT, unsoundT, startFull, startThree, startLast, checkRows, runRows, leadRows, figureRows}
 use Rattle.cases.specs.ListingRows.{headerText, listingRows}
+use Rattle.cases.specs.RequestRows.{tableThirds, tableFaster, tableTens, tableHigh, finishRows}
 use Rattle.cases.specs.Cases.{All-pass}
 
 pub all-pass : All-pass
-unfolding total joined every upTo Runs.end Runs.answers lastGroup combined laterGroups numberOf groupsOf numberBytes numberWritten gate then heldTo rowVerdict eachPlace tailVerdict rateSumVerdict tableVerdict roundedUp finish finishVerdict admissionVerdict accountsHold sound placeVerdict opening noState startVerdict start next fieldRead rowRead itemsRead placesRead numbersRead lastVerdict settled readTable tableNumbers tableBytes writeVerdict writeTable figuresVerdict figures inputVerdict leadOf leadVerdict leadAsked slotsState slotsLog slotsVerdict runVerdict run eligible later firstEligible served passed after grantOf advanced withCount withPost done ruleVerdict called callOf callsOf madeCalls answerWords writtenOver callsFrom continued replay toPlace padded rowsOf tableOf stateOf standsAt waitsThroughout reply tableT tableTShort tableRates tableBurst tableDenominator tableFive tableLate threeEach logNine lateCalls bytesT benchRows tableFirst tableSecond tablePastTwo tablePastLast tableLargest tableBlocked limitRows wideRows orderRows stateRows ruleRows replayRows tableLong bytesLong tableFull bytesPlaces tablePast tableWide old marked ratesT burstsT needsT withinsT single unwritten unread numberRows takeRows lendRows readRows writeRows refusedWriteRows changedWriteRows orderedWriteRows startT unsoundT startFull startThree startLast checkRows runRows leadRows figureRows digitsOf decimal spaced line header endLine refusedLine slotLine posted played slotTold slotStep step startRead stateRead begun headed firstStep texts listing headerText listingRows
+unfolding total joined every upTo Runs.end Runs.answers lastGroup combined laterGroups numberOf groupsOf numberBytes numberWritten gate then heldTo rowVerdict eachPlace tailVerdict rateSumVerdict tableVerdict roundedUp finish finishVerdict admissionVerdict accountsHold sound placeVerdict opening noState startVerdict start next fieldRead rowRead itemsRead placesRead numbersRead lastVerdict settled readTable tableNumbers tableBytes writeVerdict writeTable figuresVerdict figures inputVerdict leadOf leadVerdict leadAsked slotsState slotsLog slotsVerdict runVerdict run eligible later firstEligible served passed after grantOf advanced withCount withPost done ruleVerdict called callOf callsOf madeCalls answerWords writtenOver callsFrom continued replay toPlace padded rowsOf tableOf stateOf standsAt waitsThroughout reply tableT tableTShort tableRates tableBurst tableDenominator tableFive tableLate threeEach logNine lateCalls bytesT benchRows tableFirst tableSecond tablePastTwo tablePastLast tableLargest tableBlocked limitRows wideRows orderRows stateRows ruleRows replayRows tableLong bytesLong tableFull bytesPlaces tablePast tableWide old marked ratesT burstsT needsT withinsT single unwritten unread numberRows takeRows lendRows readRows writeRows refusedWriteRows changedWriteRows orderedWriteRows startT unsoundT startFull startThree startLast checkRows runRows leadRows figureRows digitsOf decimal spaced line header endLine refusedLine slotLine posted played slotTold slotStep step startRead stateRead begun headed firstStep texts listing headerText listingRows formerFinish formerFinishVerdict formerVerdict tableThirds tableFaster tableTens tableHigh finishRows
 all-pass = refl

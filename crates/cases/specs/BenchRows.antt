@@ -1,6 +1,6 @@
--- Document 01, "Bench examples": the P cases 1 to 12, and case 13. Bytes are written in decimal here. Where the paper
--- leaves a number of a table open, one is put there under which only the check in question can fail; at D = 0 no rate passes 3.
--- What a row shows beyond the paper's own numbers (credits and backlogs at its end) was worked out by hand.
+-- Document 01, "Bench examples": the P cases 1 to 12, and case 13; 11 is as document 02, request 1, has it. Bytes are written in decimal
+-- here. Where the paper leaves a number of a table open, one is put there under which only the check in question can fail; at D = 0 no
+-- rate passes 3. What a row shows beyond the paper's own numbers (credits and backlogs at its end) was worked out by hand.
 use mathlib.Core.Bool.{true}
 use mathlib.Core.List.{List, [], _∷_, _++_}
 use Prim.Native.Nat.{ℕ}
@@ -35,9 +35,9 @@ tableBurst b = table 4 1 (row 1 b 1 4 ∷ [])
 unfoldable pub tableDenominator : ℕ → Table
 tableDenominator d = table d 1 (row 1 65536 1 65536 ∷ [])
 
--- case 11: D=5; place 0 n=1 b=6; place 1 n=2 b=5
-unfoldable pub tableFive : Table
-tableFive = table 5 2 (row 1 6 1 5 ∷ row 2 5 1 5 ∷ [])
+-- case 11: D=5; place 0 n=1 b=6; place 1 n=2 b=5, with this L
+unfoldable pub tableFive : ℕ → Table
+tableFive within = table 5 2 (row 1 6 1 5 ∷ row 2 5 1 within ∷ [])
 
 -- case 12: D=4; place 0 n=1 b=40; place 1 n=1 b=4
 unfoldable pub tableLate : Table
@@ -113,10 +113,10 @@ benchRows =
       asked = calling tableT 4611686018427387903 (slot ∷ slot ∷ []);
       written = told accepted (idle 4611686018427387903 ∷ refused (refusal 22) ∷ []) (standing 4611686018427387904 (8 ∷ 4 ∷ []) (0 ∷ 0 ∷ []));
     }
-    -- 11: place 1's finish for one transfer is 2 + 3 = 5
-    ∷ record { asked = figures tableFive 1 1; written = figured 6 4 2 5 }
+    -- 11, as request 1 has it: place 1's wait is 2, and its finish for one transfer is 6/4 + 5/2 = 4
+    ∷ record { asked = figures (tableFive 5) 1 1; written = figured 6 4 2 4 }
     -- 11, asked of a state
-    ∷ record { asked = askingFigures (after tableFive 0 []) 1 1; written = told-figures (asked.figured 2 5) }
+    ∷ record { asked = askingFigures (after (tableFive 5) 0 []) 1 1; written = told-figures (asked.figured 2 4) }
     -- 12: in slots 0 to 23 place 1 is granted 0, 3 and 7 only: three times, where the source's two-rate line would give six
     ∷ record {
       asked = calling tableLate 0 (post 1 24 ∷ lateCalls);

@@ -1,4 +1,5 @@
--- What a row asks, what it is told, and the one evaluator, which runs the definitions that the contracts cite and parts of them.
+-- What a row asks, what it is told, and the one evaluator, which runs the definitions that the contracts cite, parts of them, and the
+-- finish figure as it was before request 1.
 use mathlib.Core.Bool.{Bool, true, _&&_}
 use mathlib.Core.List.{List, [], _∷_, _++_, map}
 use Prim.Native.Nat.{ℕ, zero, suc, _-_, _*_}
@@ -24,6 +25,7 @@ use Rattle.table_bytes.specs.Writing.{WriteAnswer, writeTable}
 use Rattle.rule.specs.Calls.{Call, post, slot, called}
 use Rattle.rule.specs.Log.{runVerdict, run}
 use Rattle.guarantees.specs.Counts.{slotsIn, grantsTo, stateAfter, heardFrom}
+use Rattle.guarantees.specs.FinishFigure.{formerFinish, formerVerdict}
 use Rattle.replay.specs.Replay.{replay}
 use Rattle.listing.specs.Listing.{listing}
 
@@ -100,6 +102,9 @@ pub data Question : Type 0 where
   askingFigures : State → (place j : ℕ) → Question
   -- B, R, the wait and the finish figure of a place for j transfers
   figures : Table → (place j : ℕ) → Question
+  -- its finish figure, and what it was before request 1; and what admission found with that
+  bothFinishes : Table → (place j : ℕ) → Question
+  formerAdmission : Table → Question
   -- the floor for a place over `inside`, entered after `before` from slot 0
   floor : Table → (before inside : List Call) → (place : ℕ) → Question
   -- what slotlist prints for its input bytes
@@ -133,6 +138,7 @@ pub data Reply : Type 0 where
   led : LeadAnswer → Reply
   told-figures : FiguresAnswer → Reply
   figured : (B R wait finish : ℕ) → Reply
+  finished : (finish former : ℕ) → Reply
   -- the credit on entry, whether the place waits in every slot, R × D × g, and n × (R × L − B)
   floored : (credit : ℕ) (waits : Bool) (granted owed : ℕ) → Reply
 
@@ -184,6 +190,8 @@ reply (figures t p j) =
     let B = burstsAbove p (requestorsOf t) in
     let R = rateLeft (t .denominator) p (requestorsOf t) in
     figured B R (wait (t .denominator) (requestorsOf t) p) (finish (t .denominator) (requestorsOf t) p j)
+reply (bothFinishes t p j) = finished (finish (t .denominator) (requestorsOf t) p j) (formerFinish (t .denominator) (requestorsOf t) p j)
+reply (formerAdmission t) = found (formerVerdict maxPlaces t)
 reply (floor t before inside p) =
     let s = stateAfter maxPlaces t 0 before in
     let heard = heardFrom maxPlaces s inside in
@@ -191,7 +199,7 @@ reply (floor t before inside p) =
     (rateLeft (t .denominator) p (requestorsOf t)) (burstsAbove p (requestorsOf t)) (slotsIn heard) (grantsTo p heard)
 reply (listingOf input) = bytes (listing maxPlaces input)
 
--- a question, and the reply that is written for it: in BenchRows what the paper says, elsewhere what was worked out by hand
+-- a question, and the reply that is written for it: in BenchRows what document 01 says, elsewhere what was worked out by hand
 pub record Row : Type 0 where
   pub asked : Question
   pub written : Reply

@@ -10,6 +10,7 @@ pub mod SharperFloor
 pub mod Demand3
 pub mod Conservation
 pub mod Need
+pub mod FinishFigure
 pub mod Orders
 pub mod Isolation
 pub mod Stamps

@@ -4,7 +4,7 @@ use mathlib.Core.Path.{_≡_, refl, ap}
 use mathlib.Core.List.{List, [], _∷_}
 use mathlib.Core.Logic.{_⊎_, inl, inr}
 use Prim.Native.Nat.{ℕ, zero, suc, _+_, _-_, _*_, _≤_, _<_}
-use native.Mathlib.Nat.{mul-le-mul-left, mul-le-mul-right, div-add-mod, mod-lt}
+use native.Mathlib.Nat.{mul-le-mul, mul-le-mul-left}
 use native.Mathlib.Decide.{decLe}
 use native.Mathlib.Omega.{arith}
 use lib.ListN.{length}
@@ -13,8 +13,9 @@ use Rattle.lists.specs.Runs.{answers}
 use Rattle.terms.specs.Table.{Table, requestorsOf, requestorAt}
 use Rattle.terms.specs.State.{State, credit, backlog, accountAt}
 use Rattle.terms.specs.Answers.{Answer, accepted, granted, idle, refused}
-use Rattle.terms.specs.Figures.{roundedUp, burstsAbove, rateLeft, finishOf, finish}
+use Rattle.terms.specs.Figures.{burstsAbove, rateLeft, finishOf, finish}
 use Rattle.terms.proofs.Checks.{fair}
+use Rattle.terms.proofs.Figures.{finish-covers}
 use Rattle.terms.proofs.Sound.{Sound, places-length, row-at, sound-fair, start-admitted, sound-open}
 use Rattle.rule.specs.Calls.{Call, ruled}
 use Rattle.guarantees.specs.Counts.{inSlot, slotsIn, grantsTo, firstSlots, Waits, heardFrom}
@@ -62,10 +63,6 @@ waits-or-granted limit p (suc j) s (c ∷ calls) v h =
     both (inl x) = inl (omega arith)
     both (inr w) = inr (in-any-slot (0 < backlog (accountAt p (s .accounts))) (ruled s c .answer) (omega arith), w)
 
-rounded-up-covers : (a b : ℕ) → 1 ≤ b → a ≤ b * roundedUp a b
-unfolding roundedUp
-rounded-up-covers a b h = omega (arith, div-add-mod (a + (b - 1)) b, mod-lt (a + (b - 1)) h)
-
 -- in as many slots as the finish figure says, either bound of the sharper floor comes to j grants
 sharp-enough : (d n R B c L g j : ℕ) → 1 ≤ d → 1 ≤ n → n ≤ R → Sharp d n R B c L g → finishOf d B R n j ≤ L → j ≤ g
 sharp-enough d n R B c L g j hd hn rated sharp figure = elim (decLe j g) [
@@ -73,20 +70,22 @@ sharp-enough d n R B c L g j hd hn rated sharp figure = elim (decLe j g) [
   | no fewer ↦ let lacks : g + 1 ≤ j = omega arith in absurd (refute lacks sharp)
 ]
   where
+    -- the exact sum, times R × n
+    enough : B * n + j * d * R ≤ R * n * L
+    enough = omega (arith, finish-covers d B R n j (omega arith) hn, mul-le-mul-left (R * n) figure)
+
     refute : g + 1 ≤ j → Sharp d n R B c L g → ⊥
     refute lacks (inl busy) = omega (
       arith,
-      mul-le-mul-left R figure,
-      rounded-up-covers B R (omega arith),
-      rounded-up-covers (j * d) n hn,
-      mul-le-mul-right (roundedUp (j * d) n) rated,
-      mul-le-mul-left d lacks,
+      enough,
+      mul-le-mul-left n busy,
+      mul-le-mul-left (d * g) rated,
+      mul-le-mul-left R (mul-le-mul-left d lacks),
+      mul-le-mul rated hd,
     )
     refute lacks (inr short) = omega (
       arith,
-      mul-le-mul-left n (mul-le-mul-left R figure),
-      mul-le-mul-left n (rounded-up-covers B R (omega arith)),
-      mul-le-mul-left R (rounded-up-covers (j * d) n hn),
+      enough,
       mul-le-mul-left R (mul-le-mul-left d lacks),
     )
 

@@ -1,10 +1,11 @@
 -- What is promised of every list of posts and slots and of every run, for general N. Counts has what is counted; each other file states
--- what one paragraph of document 01 promises or, where it says so, what follows from that, and its proof is the file of the same name
--- in proofs/.
+-- what one paragraph of document 01 or one request of document 02 promises or, where it says so, what follows from that, and its proof
+-- is the file of the same name in proofs/.
 pub mod Counts
 pub mod Demand3
 pub mod CreditSums
 pub mod Need
+pub mod FinishFigure
 pub mod SharperFloor
 pub mod Conservation
 pub mod Isolation

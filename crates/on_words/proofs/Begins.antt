@@ -4,20 +4,18 @@ use mathlib.Core.Bool.{Bool, true, false, _&&_}
 use mathlib.Core.List.{List}
 use Prim.Native.Nat.{ℕ}
 use native.Mathlib.Omega.{arith}
-use lib.ListN.{length, length-replicate}
+use lib.ListN.{length}
 use Rattle.lists.specs.Runs.{Result}
-use Rattle.lists.proofs.Overwriting.{length-over}
 use Rattle.terms.specs.declared.refusals.Refusal.{Refusal}
-use Rattle.terms.specs.Table.{Table, noRequestor, tableOf}
+use Rattle.terms.specs.Table.{Table}
 use Rattle.terms.specs.State.{State}
 use Rattle.terms.specs.Answers.{Answer, accepted, refused}
 use Rattle.terms.specs.Start.{start}
-use Rattle.terms.proofs.Checks.{fair, admitted}
 use Rattle.layout.specs.Words.{roomOf, rightLength, stateWords}
 use Rattle.layout.specs.Numbers.{rightNumbers, numbersRow, numbersTable}
 use Rattle.layout.proofs.Items.{length-places}
-use Rattle.table_bytes.specs.Reading.{accept, readTable}
-use Rattle.table_bytes.proofs.Opened.{table-open, Ends, turned-down, carried-out, read-ends}
+use Rattle.table_bytes.specs.Reading.{readTable}
+use Rattle.table_bytes.proofs.Opened.{rows-taken, table-open, Ends, turned-down, carried-out, read-ends}
 use Rattle.starts.specs.Starts.{begun}
 use Rattle.outcomes.specs.Outcomes.{answerCode}
 use Rattle.outcomes.specs.Places.{Told}
@@ -47,23 +45,13 @@ table-begins limit t first words rows e w = start-ends limit t first
     record { start-accepted = a; words-are = w; demand-3 = demand-3 limit t first a })
     (λ r not. no-refusal limit (start limit t first .answer) r not (table-start-names-below limit t first r not) e)
 
--- the table of an accepted reading has a row for each place that there is room for
-rows-read : (limit : ℕ) (bytes : List ℕ) (t : Table) → readTable limit bytes ≡ accept t → length (t .requestors) ≡ limit
-unfolding tableOf
-rows-read limit bytes t e =
-    let o = table-open limit bytes t e in
-    let few = fair limit t (admitted limit t (o .admitted) .passes) .count-most in
-    let made : o .n ≡ t .count = ap (λ x. x .count) (o .table) in
-    sym (ap (λ x. length (x .requestors)) (o .table))
-    ∙ length-over (o .rows) _ (omega (arith, o .count, made, few, length-replicate limit noRequestor)) ∙ length-replicate limit noRequestor
-
 bytes-begin : (limit : ℕ) (bytes : List ℕ) (first : ℕ) (words : List ℕ) → Ends limit bytes → answerCode (begun limit (readTable limit bytes) first .answer) ≡ 0
     → words ≡ stateWords (begun limit (readTable limit bytes) first .state) → Begins limit (readTable limit bytes .table) first words
 unfolding begun
 bytes-begin limit bytes first words (turned-down why r) e w =
     no-refusal limit (begun limit (readTable limit bytes) first .answer) why (rw r) (start-names-below limit bytes first why (rw r)) e
 bytes-begin limit bytes first words (carried-out t r ok) e w =
-    rw r (table-begins limit t first words (rows-read limit bytes t r) (rw r at e) (rw r at w))
+    rw r (table-begins limit t first words (rows-taken (table-open limit bytes t r .taken)) (rw r at e) (rw r at w))
 
 pub bytes-begin-demand-3 : Bytes-begin-demand-3
 unfolding started

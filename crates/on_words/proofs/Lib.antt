@@ -1,6 +1,7 @@
 -- The claims, that room makes no difference, and the one proof that all rows pass.
 pub mod Claims
 pub mod Begins
+pub mod Installed
 pub mod Longer
 pub mod LongerStart
 pub mod Room

@@ -1,6 +1,7 @@
--- What holds of the calls on lent words together, that a start with outcome 0 is one of demand 3, that room makes no difference, and worked
--- examples of each.
+-- What holds of the calls on lent words together, that a start with outcome 0 is one of demand 3, that an installed basin still starts,
+-- that room makes no difference, and worked examples of each.
 pub mod Claims
 pub mod Begins
+pub mod Installed
 pub mod Room
 pub mod Rows

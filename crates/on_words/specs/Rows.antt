@@ -50,6 +50,10 @@ nineSlots = 0 ∷ 0 ∷ 1 ∷ 0 ∷ 1 ∷ 255 ∷ 255 ∷ 1 ∷ 255 ∷ []
 abbrev pub bytesT : (last : ℕ) → List ℕ
 bytesT last = 4 ∷ 2 ∷ 1 ∷ 8 ∷ 1 ∷ 4 ∷ 1 ∷ 4 ∷ 1 ∷ last ∷ []
 
+-- case 11's table with this L at place 1
+abbrev pub bytesFive : (within : ℕ) → List ℕ
+bytesFive within = 5 ∷ 2 ∷ 1 ∷ 6 ∷ 1 ∷ 5 ∷ 2 ∷ 5 ∷ 1 ∷ within ∷ []
+
 -- T's numbers with this L at place 1, and these past its two places
 abbrev pub numbersT : (within : ℕ) → (past : List ℕ) → List ℕ
 numbersT within past = 4 ∷ 2 ∷ 1 ∷ 8 ∷ 1 ∷ 4 ∷ 1 ∷ 4 ∷ 1 ∷ within ∷ past
@@ -139,6 +143,9 @@ startRows =
     -- case 2: refused 7 at place 1 is 7 + 256 × 2; every word is 0. No bytes are refused 8, which names no place
     ∷ starting (bytesT 6) 0 (unused (wordCount maxPlaces)) (replicate (wordCount maxPlaces) 0) 519
     ∷ starting [] 0 (unused (wordCount maxPlaces)) (replicate (wordCount maxPlaces) 0) 8
+    -- request 1's basin: accepted with the figure 4 for the probe's L, and refused 7 at place 1 with one less
+    ∷ starting (bytesFive 4) 0 (unused 15) (5 ∷ 2 ∷ 0 ∷ 1 ∷ 6 ∷ 1 ∷ 5 ∷ 6 ∷ 0 ∷ 2 ∷ 5 ∷ 1 ∷ 4 ∷ 5 ∷ 0 ∷ []) 0
+    ∷ starting (bytesFive 3) 0 (unused 15) (replicate 15 0) 519
     -- a first slot number past its limit is refused 12
     ∷ starting (bytesT 7) (maxSlot + 1) (unused (wordCount maxPlaces)) (replicate (wordCount maxPlaces) 0) 12
     -- one word fewer or more is 255, ahead of all else, and the words stay

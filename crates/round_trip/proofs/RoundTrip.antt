@@ -16,14 +16,14 @@ use Rattle.groups.specs.Inverse.{Bytes}
 use Rattle.groups.proofs.Inverse.{bytes-append, five-bytes}
 use Rattle.groups.proofs.Inverse as groups
 use Rattle.terms.specs.declared.place.Requestor.{Requestor}
-use Rattle.terms.specs.Table.{Table, rowNumbers, noRequestor, requestorClear, requestorsOf, tableOf, Bounds, denominatorBounds, countBounds, rateBounds, burstBounds, needBounds, withinBounds, heldTo, rowVerdict, eachPlace, tableVerdict}
+use Rattle.terms.specs.Table.{Table, rowNumbers, noRequestor, requestorClear, requestorsOf, tableOf, Bounds, denominatorBounds, countBounds, rateBounds, burstBounds, needBounds, withinBounds, heldTo, rowVerdict, eachPlace}
 use Rattle.terms.specs.Refusals.{Verdict, faultless, fault, gate, then, resolve}
-use Rattle.terms.specs.Figures.{finishesVerdict, admissionVerdict}
-use Rattle.terms.proofs.Checks.{then-open, held-open, Passed, passed}
-use Rattle.table_bytes.specs.Reading.{read, next, fieldRead, itemsRead, rowRead, rowsRead, placesRead, numbersRead, lastVerdict, accept, settled, readTable}
+use Rattle.terms.specs.Figures.{admissionVerdict}
+use Rattle.terms.proofs.Checks.{then-open, held-open, Passed, passed, admitted}
+use Rattle.table_bytes.specs.Reading.{read, next, fieldRead, itemsRead, rowRead, rowsRead, placesRead, numbersRead, accept, readTable}
 use Rattle.table_bytes.specs.Writing.{tableNumbers, tableBytes, writeVerdict, wrote, refused, TableWritten, writeTable}
 use Rattle.table_bytes.proofs.Accepted.{table-rows}
-use Rattle.table_bytes.proofs.Opened.{Opened, table-open}
+use Rattle.table_bytes.proofs.Opened.{Taken, table-open, read-on}
 use Rattle.round_trip.specs.RoundTrip.{Bytes-read-back, Written-reads-back, Read-writes-back}
 
 -- ---- written, then read
@@ -101,11 +101,6 @@ table-whole t h clear =
     ∙ ap (λ l. requestorsOf t ++ l) (sym (clear-rows (t .count) rows clear)) ∙ take-append-drop (t .count) rows in
     ap (λ l. record { denominator = t .denominator; count = t .count; requestors = l }) all
 
--- admission is checks 1 to 6, and then 7
-admitted-both : (limit : ℕ) (t : Table) → admissionVerdict limit t ≡ faultless → (tableVerdict limit t ≡ faultless) × (finishesVerdict t ≡ faultless)
-unfolding admissionVerdict
-admitted-both limit t ok = then-open _ _ ok
-
 table-numbers-read : (limit : ℕ) (t : Table) → limit ≤ maxNumber → length (t .requestors) ≡ limit → Passed limit t → numbersRead limit (tableBytes t ++ []) ≡ read t []
 unfolding numbersRead placesRead next tableBytes tableNumbers
 table-numbers-read limit t small long ok =
@@ -122,12 +117,9 @@ table-numbers-read limit t small long ok =
 
 table-reads : (limit : ℕ) (t : Table) → limit ≤ maxNumber → length (t .requestors) ≡ limit → admissionVerdict limit t ≡ faultless
     → readTable limit (tableBytes t) ≡ accept t
-unfolding readTable settled lastVerdict gate then
 table-reads limit t small long ok =
-    let both = admitted-both limit t ok in
-    let p = passed limit t (both .0) in
-    let back = ap (numbersRead limit) (sym (append-nil (tableBytes t))) ∙ table-numbers-read limit t small long p in
-    rw (back, p .sum, both .1)
+    let p = passed limit t (admitted limit t ok .passes) in
+    read-on limit (tableBytes t) t (ap (numbersRead limit) (sym (append-nil (tableBytes t))) ∙ table-numbers-read limit t small long p) ok
 
 -- ---- in bytes
 
@@ -158,7 +150,7 @@ table-bytes-are limit t small ok =
     (field-bytes (countBounds limit) (t .count) rows small (ok .count) (rows-bytes (t .denominator) 0 (requestorsOf t) fits (ok .rows)))
 
 pub bytes-read-back : Bytes-read-back
-bytes-read-back limit t small long ok = (table-bytes-are limit t small (passed limit t (admitted-both limit t ok .0)), table-reads limit t small long ok)
+bytes-read-back limit t small long ok = (table-bytes-are limit t small (passed limit t (admitted limit t ok .passes)), table-reads limit t small long ok)
 
 -- ---- an accepted writing
 
@@ -189,7 +181,7 @@ written-reads-back limit t old k small long e =
 -- ---- read, then written
 
 -- the table's bytes are those that it was read from
-table-bytes : {limit : ℕ} {bytes : List ℕ} {t : Table} → Bytes bytes → Opened limit bytes t → tableBytes t ≡ bytes
+table-bytes : {limit : ℕ} {bytes : List ℕ} {t : Table} → Bytes bytes → Taken limit bytes t [] → tableBytes t ≡ bytes
 unfolding tableBytes tableNumbers tableOf
 table-bytes {limit} {bytes} {t} all r =
     let rows : requestorsOf (tableOf limit (r .d) (r .n) (r .rows)) ≡ r .rows = table-rows limit (r .d) (r .n) (r .rows) (r .count) in
@@ -201,5 +193,5 @@ pub read-writes-back : Read-writes-back
 unfolding writeTable writeVerdict then gate
 read-writes-back limit bytes t old all room e =
     let r = table-open limit bytes t e in
-    let same = table-bytes all r in
+    let same = table-bytes all (r .taken) in
     rw (r .admitted, same, le-leb (length bytes) (length old) room)

@@ -20,7 +20,7 @@ use Rattle.terms.specs.declared.refusals.Refusal.{Refusal}
 use Rattle.terms.specs.declared.place.Requestor.{Requestor}
 use Rattle.terms.specs.Table.{Table, rowNumbers, noRequestor, requestorClear, requestorsOf, tableOf, Bounds, rateBounds, burstBounds, needBounds, withinBounds, denominatorBounds, countBounds, heldTo, rowVerdict, eachPlace, tailVerdict, rateSumVerdict, tableVerdict}
 use Rattle.terms.specs.Refusals.{Verdict, faultless, fault, refusal, gate, then, resolve}
-use Rattle.terms.specs.Figures.{finishesVerdict, admissionVerdict}
+use Rattle.terms.specs.Figures.{admissionVerdict}
 use Rattle.table_bytes.specs.Reading.{Read, read, stop, next, readAs, fieldRead, itemsRead, rowRead, rowsRead, placesRead, lastVerdict, accept, refuse, settled}
 use Rattle.table_bytes.proofs.Readings.{Took}
 
@@ -181,8 +181,8 @@ rest-clear (suc limit) (suc n) = rest-clear limit n
 -- a table that passes 1 to 5
 passed-five : (limit : ℕ) (t : Table) → heldTo denominatorBounds (t .denominator) ≡ faultless → heldTo (countBounds limit) (t .count) ≡ faultless
     → tailVerdict t ≡ faultless → eachPlace (rowVerdict (t .denominator)) 0 (requestorsOf t) ≡ faultless
-    → admissionVerdict limit t ≡ then (rateSumVerdict t) (finishesVerdict t)
-unfolding admissionVerdict tableVerdict then
+    → tableVerdict limit t ≡ rateSumVerdict t
+unfolding tableVerdict then
 passed-five limit t one two tail rows = rw (one, two, tail, rows)
 
 module _ (limit d n : ℕ) (rows : List Requestor) (count : length rows ≡ n) where
@@ -195,11 +195,11 @@ module _ (limit d n : ℕ) (rows : List Requestor) (count : length rows ≡ n) w
   unfolding tailVerdict gate tableOf writtenOver
   table-tail = rw (drop-at rows (drop (length rows) (replicate limit noRequestor)) n count, rest-clear limit (length rows))
 
-  -- D, N and the rows have passed 1 to 5, so that admission comes to 6 and 7
-  pub table-admission : heldTo denominatorBounds d ≡ faultless → heldTo (countBounds limit) n ≡ faultless → eachPlace (rowVerdict d) 0 rows ≡ faultless
-      → admissionVerdict limit (tableOf limit d n rows) ≡ then (rateSumVerdict (tableOf limit d n rows)) (finishesVerdict (tableOf limit d n rows))
+  -- D, N and the rows have passed 1 to 5, so that 6 is left of the table's checks
+  pub rate-sum-left : heldTo denominatorBounds d ≡ faultless → heldTo (countBounds limit) n ≡ faultless → eachPlace (rowVerdict d) 0 rows ≡ faultless
+      → tableVerdict limit (tableOf limit d n rows) ≡ rateSumVerdict (tableOf limit d n rows)
   unfolding tableOf
-  table-admission one two rows-pass = passed-five limit (tableOf limit d n rows) one two table-tail (ap (eachPlace (rowVerdict d) 0) table-rows ∙ rows-pass)
+  rate-sum-left one two rows-pass = passed-five limit (tableOf limit d n rows) one two table-tail (ap (eachPlace (rowVerdict d) 0) table-rows ∙ rows-pass)
 
 -- ---- the whole reading
 
@@ -213,7 +213,7 @@ module _ (limit d n : ℕ) (bytes : List ℕ) where
   pub settled-read : (t : Table) (rows : List Requestor) (rest : List ℕ) → heldTo denominatorBounds d ≡ faultless → heldTo (countBounds limit) n ≡ faultless
       → rowsRead n d 0 bytes ≡ read rows rest → t ≡ tableOf limit d n rows
       → resolve (then (gate (refusal 10) (eqb (length rest) 0) faultless) (admissionVerdict limit t)) (accept t) (refuse limit) ≡ settled limit (placesRead limit d n bytes)
-  unfolding settled placesRead next lastVerdict
+  unfolding settled placesRead next lastVerdict admissionVerdict
   settled-read t rows rest one two e f =
       let opened = rows-open n d 0 bytes rows rest e in
-      rw (e, f, table-admission limit d n rows (opened .count) one two (opened .passes))
+      rw (e, f, rate-sum-left limit d n rows (opened .count) one two (opened .passes))

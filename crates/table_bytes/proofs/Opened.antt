@@ -1,21 +1,24 @@
--- An accepted reading: what it took from its bytes, and that its table passes admission. And how any reading ends. Assumes nothing.
-use mathlib.Core.Path.{_≡_, refl, ap, subst, _∙_}
+-- What a reading takes from its bytes; that an accepted one has taken them all and its table passes admission, and the other way round;
+-- and how any reading ends. Assumes nothing.
+use mathlib.Core.Path.{_≡_, refl, ap, sym, subst, _∙_}
 use mathlib.Core.List.{List, [], _∷_}
-use Prim.Native.Nat.{ℕ, suc}
+use Prim.Native.Nat.{ℕ, suc, _≤_}
 use native.Mathlib.Omega.{arith}
 use borrow.Author.Tests.{eqb-true}
-use lib.ListN.{length}
+use lib.Dec.{eqb}
+use lib.ListN.{length, length-replicate}
 use Rattle.lists.specs.Sums.{joined}
+use Rattle.lists.proofs.Overwriting.{length-over}
 use Rattle.terms.specs.declared.refusals.Refusal.{Refusal}
 use Rattle.terms.specs.declared.place.Requestor.{Requestor}
-use Rattle.terms.specs.Table.{Table, rowNumbers, tableOf, denominatorBounds, countBounds, rateSumVerdict}
-use Rattle.terms.specs.Refusals.{Verdict, faultless, fault, then, resolve}
+use Rattle.terms.specs.Table.{Table, noRequestor, rowNumbers, tableOf, denominatorBounds, countBounds, rateSumVerdict, tableVerdict}
+use Rattle.terms.specs.Refusals.{Verdict, faultless, fault, refusal, gate, then, resolve}
 use Rattle.terms.specs.Answers.{accepted}
 use Rattle.terms.specs.Answers as answers
 use Rattle.terms.specs.Figures.{finishesVerdict, admissionVerdict}
-use Rattle.terms.proofs.Checks.{gate-open, then-open}
+use Rattle.terms.proofs.Checks.{gate-open, then-open, held-open, passed}
 use Rattle.table_bytes.specs.Reading.{Read, read, stop, placesRead, numbersRead, lastVerdict, TableRead, accept, refuse, settled, readTable}
-use Rattle.table_bytes.proofs.Accepted.{Spent, spent-more, field-open, field-spent, next-open, read-same, rows-open, table-admission}
+use Rattle.table_bytes.proofs.Accepted.{Spent, spent-more, field-open, field-spent, next-open, read-same, rows-open, rate-sum-left}
 
 refused-accepted : {X : Type 0} (limit : ℕ) (why : Refusal) (t : Table) → refuse limit why ≡ accept t → X
 refused-accepted limit why t e =
@@ -23,21 +26,57 @@ refused-accepted limit why t e =
     let z : _≡_ {A = ℕ} 0 1 = cc in
     absurd (omega arith)
 
--- what an accepted reading took from its bytes
-pub record Opened (limit : ℕ) (bytes : List ℕ) (t : Table) : Type 0 where
+-- what was taken from the bytes of a table whose numbers were read: each is within its limits, so that 6 is left of the table's checks
+pub record Taken (limit : ℕ) (bytes : List ℕ) (t : Table) (rest : List ℕ) : Type 0 where
   pub d : ℕ
   pub n : ℕ
   pub rows : List Requestor
   pub count : length rows ≡ n
+  pub few : n ≤ limit
   pub table : tableOf limit d n rows ≡ t
-  pub admitted : admissionVerdict limit t ≡ faultless
-  pub spent : Spent (d ∷ n ∷ joined rowNumbers rows) bytes []
+  pub checked : tableVerdict limit t ≡ rateSumVerdict t
+  pub spent : Spent (d ∷ n ∷ joined rowNumbers rows) bytes rest
 
--- nothing is left, and 6 and 7 pass
-last-open : (t : Table) (rest : List ℕ) → lastVerdict t rest ≡ faultless → (rest ≡ []) × (then (rateSumVerdict t) (finishesVerdict t) ≡ faultless)
-unfolding lastVerdict
-last-open t [] e = (refl, then-open _ _ e .1)
-last-open t (x ∷ rest) e = let none = eqb-true (suc (length rest)) 0 (gate-open _ _ _ (then-open _ _ e .0) .0) in absurd (omega (arith, none))
+pub numbers-open : (limit : ℕ) (bytes : List ℕ) (t : Table) (rest : List ℕ) → numbersRead limit bytes ≡ read t rest → Taken limit bytes t rest
+unfolding numbersRead placesRead
+numbers-open limit bytes t rest whole =
+    let d = next-open _ _ t rest whole in
+    let n = next-open _ _ t rest (d .second) in
+    let p = next-open _ _ t rest (n .second) in
+    let same = read-same _ t _ rest (p .second) in
+    let one = field-open denominatorBounds bytes (d .value) (d .left) (d .first) in
+    let two = field-open (countBounds limit) (d .left) (n .value) (n .left) (n .first) in
+    let rows = rows-open (n .value) (d .value) 0 (n .left) (p .value) (p .left) (p .first) in
+    let numbers = spent-more (d .value ∷ []) (n .value ∷ joined rowNumbers (p .value)) (field-spent one) (spent-more (n .value ∷ []) (joined rowNumbers (p .value)) (field-spent two) (rows .spent)) in
+    record {
+      d = d .value;
+      n = n .value;
+      rows = p .value;
+      count = rows .count;
+      few = held-open (countBounds limit) (n .value) (two .held) .1;
+      table = same .0;
+      checked = rw (same .0) at (rate-sum-left limit (d .value) (n .value) (p .value) (rows .count) (one .held) (two .held) (rows .passes));
+      spent = subst (λ l. Spent (d .value ∷ n .value ∷ joined rowNumbers (p .value)) bytes l) (same .1) numbers;
+    }
+
+-- the table has a row for each place that there is room for
+pub rows-taken : {limit : ℕ} {bytes : List ℕ} {t : Table} {rest : List ℕ} → Taken limit bytes t rest → length (t .requestors) ≡ limit
+unfolding tableOf
+rows-taken {limit} taken =
+    sym (ap (λ x. length (x .requestors)) (taken .table))
+    ∙ length-over (taken .rows) _ (omega (arith, taken .count, taken .few, length-replicate limit noRequestor)) ∙ length-replicate limit noRequestor
+
+-- ---- an accepted reading
+
+-- it took all its bytes, and its table passes admission
+pub record Opened (limit : ℕ) (bytes : List ℕ) (t : Table) : Type 0 where
+  pub taken : Taken limit bytes t []
+  pub admitted : admissionVerdict limit t ≡ faultless
+
+-- 10 passes: nothing is left; and so does what is tested after it
+pub nothing-left : (rest : List ℕ) (more : Verdict) → then (gate (refusal 10) (eqb (length rest) 0) faultless) more ≡ faultless → (rest ≡ []) × (more ≡ faultless)
+nothing-left [] more e = (refl, then-open _ _ e .1)
+nothing-left (x ∷ rest) more e = let none = eqb-true (suc (length rest)) 0 (gate-open _ _ _ (then-open _ _ e .0) .0) in absurd (omega (arith, none))
 
 settled-open : (limit : ℕ) (r : Read Table) (t : Table) → settled limit r ≡ accept t → (rest : List ℕ) × (r ≡ read t rest) × (lastVerdict t rest ≡ faultless)
 unfolding settled
@@ -48,28 +87,19 @@ settled-open limit (read u rest) t e = told (lastVerdict u rest) refl e where
 settled-open limit (stop why) t e = refused-accepted limit why t e
 
 pub table-open : (limit : ℕ) (bytes : List ℕ) (t : Table) → readTable limit bytes ≡ accept t → Opened limit bytes t
-unfolding readTable numbersRead placesRead
+unfolding readTable lastVerdict admissionVerdict
 table-open limit bytes t e =
     let (rest, whole, last) = settled-open limit (numbersRead limit bytes) t e in
-    let (none, checked) = last-open t rest last in
-    let d = next-open _ _ t rest whole in
-    let n = next-open _ _ t rest (d .second) in
-    let p = next-open _ _ t rest (n .second) in
-    let same = read-same _ t _ rest (p .second) in
-    let one = field-open denominatorBounds bytes (d .value) (d .left) (d .first) in
-    let two = field-open (countBounds limit) (d .left) (n .value) (n .left) (n .first) in
-    let rows = rows-open (n .value) (d .value) 0 (n .left) (p .value) (p .left) (p .first) in
-    let admission = table-admission limit (d .value) (n .value) (p .value) (rows .count) (one .held) (two .held) (rows .passes) in
-    let numbers = spent-more (d .value ∷ []) (n .value ∷ joined rowNumbers (p .value)) (field-spent one) (spent-more (n .value ∷ []) (joined rowNumbers (p .value)) (field-spent two) (rows .spent)) in
-    record {
-      d = d .value;
-      n = n .value;
-      rows = p .value;
-      count = rows .count;
-      table = same .0;
-      admitted = (rw (same .0) at admission) ∙ checked;
-      spent = subst (λ l. Spent (d .value ∷ n .value ∷ joined rowNumbers (p .value)) bytes l) (same .1 ∙ none) numbers;
-    }
+    let (none, checked) = nothing-left rest (then (rateSumVerdict t) (finishesVerdict t)) last in
+    let taken = numbers-open limit bytes t [] (whole ∙ ap (read t) none) in
+    record { taken = taken; admitted = rw (taken .checked) checked }
+
+-- ---- and the other way round
+
+-- the numbers are read to the end, and the table passes admission
+pub read-on : (limit : ℕ) (bytes : List ℕ) (t : Table) → numbersRead limit bytes ≡ read t [] → admissionVerdict limit t ≡ faultless → readTable limit bytes ≡ accept t
+unfolding readTable settled lastVerdict admissionVerdict gate then
+read-on limit bytes t whole ok = let both = then-open _ _ ok in rw (whole, passed limit t (both .0) .sum, both .1)
 
 -- ---- how a reading ends
 

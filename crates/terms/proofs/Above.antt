@@ -8,7 +8,7 @@ use lib.Seq.{getD-take, take-take}
 use Rattle.lists.specs.Sums.{total}
 use Rattle.lists.proofs.Sums.{total-take-drop, total-take-rises, total-take-suc}
 use Rattle.terms.specs.Table.{Table, rate, burst, noRequestor, requestorsOf, tableVerdict}
-use Rattle.terms.specs.Limits.{maxDenominator, maxBurst, maxNeed}
+use Rattle.terms.specs.Limits.{maxDenominator, maxBurst, maxNeed, maxWithin}
 use Rattle.terms.specs.Refusals.{faultless}
 use Rattle.terms.specs.Figures.{burstsAbove, ratesAbove}
 use Rattle.terms.proofs.Checks.{fair, bursts-fit}
@@ -19,6 +19,7 @@ pub record Above (limit : ℕ) (t : Table) (p : ℕ) : Type 0 where
   pub denominator-most : t .denominator ≤ maxDenominator
   pub own-rate : 1 ≤ getD (t .requestors) p noRequestor .rate
   pub own-need : getD (t .requestors) p noRequestor .need .0 ≤ maxNeed
+  pub own-within : getD (t .requestors) p noRequestor .within .0 ≤ maxWithin
   pub rates : ratesAbove p (t .requestors) + getD (t .requestors) p noRequestor .rate ≤ t .denominator
   pub bursts-most : burstsAbove p (t .requestors) ≤ limit * maxBurst
   -- the table's own rows and the rows of places 0 to N−1 are the same up to here
@@ -39,6 +40,7 @@ above limit t p long ok h =
       denominator-most = f .denominator-most;
       own-rate = least;
       own-need = rw row at (f .row p inside .need-most);
+      own-within = rw row at (f .row p inside .within-most);
       rates = omega (arith, sum, total-take-drop rate (suc p) (requestorsOf t), f .rate-sum);
       bursts-most = omega (arith, total-take-rises burst p (t .count) (t .requestors) (omega arith), bursts-fit limit t f);
       same-rates = ap (total rate) cut;

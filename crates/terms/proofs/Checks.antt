@@ -5,7 +5,7 @@ use mathlib.Core.List.{List, [], _∷_}
 use Prim.Native.Nat.{ℕ, zero, suc, _+_, _*_, _≤_, _<_}
 use native.Mathlib.Nat.{mul-le-mul-right, not-suc-le-zero, zero-add, add-zero, add-suc, suc-add}
 use native.Mathlib.Omega.{arith}
-use borrow.Author.Tests.{leb-true}
+use borrow.Author.Tests.{leb-true, le-leb}
 use lib.ListN.{length, drop, length-take}
 use Rattle.lists.specs.Sums.{total, every}
 use Rattle.lists.proofs.Sums.{total-most}
@@ -68,6 +68,15 @@ unfolding eachPlace
 each-place-at check p [] e i h = absurd (not-suc-le-zero h)
 each-place-at check p (r ∷ rs) e zero h = rw add-zero (then-open (check p r) (eachPlace check (suc p) rs) e .0)
 each-place-at check p (r ∷ rs) e (suc i) h = rw (add-suc, ← suc-add) (each-place-at check (suc p) rs (then-open (check p r) (eachPlace check (suc p) rs) e .1) i (omega arith))
+
+-- and only then
+pub at-each-place : (check : ℕ → Requestor → Verdict) (p : ℕ) (rs : List Requestor)
+    → ((i : ℕ) → i < length rs → check (p + i) (requestorAt i rs) ≡ faultless) → eachPlace check p rs ≡ faultless
+unfolding eachPlace then
+at-each-place check p [] h = refl
+at-each-place check p (r ∷ rs) h =
+    let here : check p r ≡ faultless = rw add-zero at (h 0 (omega arith)) in
+    rw here (at-each-place check (suc p) rs (λ i l. rw (suc-add, ← add-suc) (h (suc i) (omega arith))))
 
 -- a row within its limits
 pub record Row (d : ℕ) (r : Requestor) : Type 0 where
@@ -166,3 +175,9 @@ admitted limit t e =
       passes = a .0;
       need = λ p h. leb-true _ _ (gate-open _ _ _ (rw (zero-add p) at (each-place-at (finishVerdict (t .denominator) (requestorsOf t)) 0 (requestorsOf t) (a .1) p h)) .0);
     }
+
+pub admits : (limit : ℕ) (t : Table) → Admitted limit t → admissionVerdict limit t ≡ faultless
+unfolding admissionVerdict finishVerdict then
+admits limit t a =
+    rw (a .passes)
+    (at-each-place (finishVerdict (t .denominator) (requestorsOf t)) 0 (requestorsOf t) (λ p h. rw (zero-add p) (gate-passed _ _ _ (le-leb _ _ (a .need p h)))))

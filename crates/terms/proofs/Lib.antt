@@ -1,7 +1,8 @@
--- Laws that belong to no one function: refusals, checks, walks over places, sums above a place, and sound states.
+-- Laws that belong to no one function: refusals, checks, walks over places, sums above a place, figures, and sound states.
 pub mod Causes
 pub mod Checks
 pub mod AsTests
 pub mod Places
 pub mod Above
+pub mod Figures
 pub mod Sound

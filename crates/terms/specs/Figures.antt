@@ -1,9 +1,11 @@
--- Document 01, "Wait, finish and lead": the sums above a place, the wait, the finish figure, and check 7.
+-- Document 01, "Wait, finish and lead": the sums above a place, the wait, the finish figure (as document 02, request 1, has it), and
+-- check 7.
 use mathlib.Core.List.{List}
 use Prim.Native.Nat.{ℕ, _+_, _-_, _*_, _/_}
 use lib.Dec.{leb}
 use lib.ListN.{take}
 use Rattle.lists.specs.Sums.{total}
+use Rattle.terms.specs.Limits.{maxDenominator, maxBurst, maxNeed}
 use Rattle.terms.specs.declared.place.Requestor.{Requestor}
 use Rattle.terms.specs.Table.{Table, rate, burst, requestorAt, requestorsOf, eachPlace, tableVerdict}
 use Rattle.terms.specs.Refusals.{Verdict, faultless, refusalAt, gate, then}
@@ -32,13 +34,17 @@ waitOf B R = roundedUp B R
 abbrev pub wait : ℕ → List Requestor → ℕ → ℕ
 wait d rs p = waitOf (burstsAbove p rs) (rateLeft d p rs)
 
--- the finish figure for j transfers at rate n: the reported wait, and j × D / n rounded up
+-- the finish figure for j transfers at rate n: the fractions B / R and j × D / n are summed as they are, and only the sum is rounded up
 abbrev pub finishOf : ℕ → ℕ → ℕ → ℕ → ℕ → ℕ
-finishOf d B R n j = waitOf B R + roundedUp (j * d) n
+finishOf d B R n j = roundedUp (B * n + j * d * R) (R * n)
 
 -- the finish figure of place p for j transfers
 unfoldable pub finish : ℕ → List Requestor → ℕ → ℕ → ℕ
 finish d rs p j = finishOf d (burstsAbove p rs) (rateLeft d p rs) (requestorAt p rs .rate) j
+
+-- what a finish figure is at most in a table of `limit` places: all their bursts and all transfers of a need, undivided
+abbrev pub mostFinish : ℕ → ℕ
+mostFinish limit = limit * maxBurst + maxNeed * maxDenominator
 
 -- check 7 of the requestor r at place p
 unfoldable pub finishVerdict : ℕ → List Requestor → ℕ → Requestor → Verdict

@@ -3,6 +3,7 @@
 
 mod demand3;
 mod differential;
+mod installed;
 mod model;
 mod rooms;
 mod rows;

@@ -1,4 +1,4 @@
-//! A second arbiter in plain Rust, written from document 01 and from nothing else: the product's answers are held to it, and its
+//! A second arbiter in plain Rust, written from document 01, as the requests of document 02 have changed it, and from nothing else: the product's answers are held to it, and its
 //! time is measured beside the product's. All numbers are u64. A table has room for 16 places, or for as many as are said.
 
 mod bytes;

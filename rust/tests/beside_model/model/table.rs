@@ -102,8 +102,9 @@ impl<const PLACES: usize> Table<PLACES> {
         self.bursts_above(place).div_ceil(self.rate_left(place))
     }
 
-    /// The finish figure for so many transfers.
+    /// The finish figure for so many transfers: the fractions B / R and j D / n, summed and then rounded up.
     pub fn finish(&self, place: usize, transfers: u64) -> u64 {
-        self.wait(place) + (transfers * self.denominator).div_ceil(self.requestors[place].rate)
+        let (left, rate) = (self.rate_left(place), self.requestors[place].rate);
+        (self.bursts_above(place) * rate + transfers * self.denominator * left).div_ceil(left * rate)
     }
 }

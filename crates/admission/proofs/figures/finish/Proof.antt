@@ -1,30 +1,51 @@
-use mathlib.Core.Path.{refl, _∙_}
+-- `admission::figures::finish` meets its contract. Checks 1 to 6 keep the parts within their limits, and they are those of the table's row.
+-- Assumes nothing.
+use mathlib.Core.Path.{_≡_, _∙_}
 use native.Mathlib.Omega.{arith}
 use Rattle.terms.specs.Limits.{maxPlaces}
-use Rattle.admission.proofs.Rows.{denominator-word, placed, left-there, parts, figure}
+use Rattle.admission.specs.Checked.{tableIn}
+use Rattle.admission.proofs.Rows.{denominator-word, Placed, placed, parts, figure}
 use Rattle.admission.proofs.figures.finish.Statement.{statement}
 use Rattle.admission.proofs.figures.finish.Tie as tie
 
+-- what checks 1 to 6 say of the place
+facts : (c : tie.Start) → Placed maxPlaces (c .args .words .now) (c .args .p)
+facts c = placed maxPlaces _ _ (c .pre .0) (c .pre .1)
+
+denominator : (c : tie.After-denominator) → c .denominator .result ≡ tableIn (c .before .before .args .words .now) .denominator
+denominator c = c .denominator .ensures ∙ denominator-word (c .before .before .args .words .now)
+
 denominator-requires : tie.Need-denominator-requires
-denominator-requires c κs = let a = c .before .args in let w = a .words .now in let f = placed maxPlaces w (a .p) (c .before .pre .0) (c .before .pre .1) in omega (arith, f .there)
+denominator-requires c κs = omega (arith, facts (c .before) .there)
 
 rate-requires : tie.Need-rate-requires
-rate-requires c κs = let a = c .before .before .args in let w = a .words .now in let f = placed maxPlaces w (a .p) (c .before .before .pre .0) (c .before .before .pre .1) in f .there
+rate-requires c κs = facts (c .before .before) .there
 
 rates-above-requires : tie.Need-rates-above-requires
-rates-above-requires c κs = let a = c .before .before .before .args in let w = a .words .now in let f = placed maxPlaces w (a .p) (c .before .before .before .pre .0) (c .before .before .before .pre .1) in (omega (arith, f .there), omega (arith, f .rates, f .denominator-most))
+rates-above-requires c κs =
+    let f = facts (c .before .before .before) in
+    (omega (arith, f .there), omega (arith, f .rates, f .denominator-most))
 
 sub-left : tie.Need-sub-left
-sub-left c = let a = c .before .before .before .before .args in let w = a .words .now in let f = placed maxPlaces w (a .p) (c .before .before .before .before .pre .0) (c .before .before .before .before .pre .1) in left-there maxPlaces w (a .p) f _ _ _ _ (a .j .0) (c .before .before .denominator .ensures ∙ denominator-word w) refl (c .rates-above .ensures) refl
+sub-left c = omega (arith, facts (c .before .before .before .before) .rates, c .rates-above .ensures, denominator (c .before .before))
 
 bursts-above-requires : tie.Need-bursts-above-requires
-bursts-above-requires c κs = let a = c .before .before .before .before .args in let w = a .words .now in let f = placed maxPlaces w (a .p) (c .before .before .before .before .pre .0) (c .before .before .before .before .pre .1) in (omega (arith, f .there), omega (arith, f .bursts-most))
+bursts-above-requires c κs =
+    let f = facts (c .before .before .before .before) in
+    (omega (arith, f .there), omega (arith, f .bursts-most))
 
 finish-of-requires : tie.Need-finish-of-requires
-finish-of-requires c κs = let a = c .before .before .before .before .before .args in let w = a .words .now in let f = placed maxPlaces w (a .p) (c .before .before .before .before .before .pre .0) (c .before .before .before .before .before .pre .1) in parts maxPlaces w (a .p) f _ _ _ _ (a .j .0) (c .before .before .before .denominator .ensures ∙ denominator-word w) (c .bursts-above .ensures) (c .before .rates-above .ensures) (c .before .before .rate .ensures) (c .before .before .before .before .before .pre .2)
+finish-of-requires c κs =
+    let start = c .before .before .before .before .before in
+    parts maxPlaces _ _ (facts start) _ _ _ _ (start .args .j .0) (denominator (c .before .before .before)) (c .bursts-above .ensures)
+    (c .before .rates-above .ensures) (c .before .before .rate .ensures) (start .pre .2)
 
 returns : tie.Need-returns
-returns c = let a = c .before .before .before .before .before .before .args in let w = a .words .now in let f = placed maxPlaces w (a .p) (c .before .before .before .before .before .before .pre .0) (c .before .before .before .before .before .before .pre .1) in c .finish-of .ensures ∙ figure maxPlaces w (a .p) f _ _ _ _ (a .j .0) (c .before .before .before .before .denominator .ensures ∙ denominator-word w) (c .before .bursts-above .ensures) (c .before .before .rates-above .ensures) (c .before .before .before .rate .ensures)
+returns c =
+    let start = c .before .before .before .before .before .before in
+    let told = figure maxPlaces _ _ (facts start) _ _ _ _ (start .args .j .0) (denominator (c .before .before .before .before)) (c .before .bursts-above .ensures)
+    (c .before .before .rates-above .ensures) (c .before .before .before .rate .ensures) in
+    (c .finish-of .ensures .0 ∙ told, c .finish-of .ensures .1)
 
 pub finish-spec : {M : Type 1} → statement M
 finish-spec =

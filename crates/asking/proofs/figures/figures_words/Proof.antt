@@ -71,7 +71,7 @@ returns c = rw (sym (found (c .before .before .before)) ∙ ap verdictOf (c .bef
 
 returns-2 : tie.Need-returns-2
 unfolding figures
-returns-2 c = rw (passed (c .before .before), ← c .before .wait .ensures .0, ← c .finish .ensures)
+returns-2 c = rw (passed (c .before .before), ← c .before .wait .ensures .0, ← c .finish .ensures .0)
 
 pub figures-words-spec : {M : Type 1} → statement M
 figures-words-spec =

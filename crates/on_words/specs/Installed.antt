@@ -1,0 +1,43 @@
+-- Document 02, request 1, turns no installed basin away: what a unit with the former finish figure took, as a table's bytes or as numbers,
+-- is still read, and begins a state with outcome 0.
+use mathlib.Core.Path.{_≡_}
+use mathlib.Core.Bool.{true}
+use mathlib.Core.List.{List}
+use Prim.Native.Nat.{ℕ, _≤_}
+use lib.Dec.{eqb}
+use lib.ListN.{length}
+use Rattle.terms.specs.Table.{Table, rateSumVerdict}
+use Rattle.terms.specs.Limits.{maxSlot}
+use Rattle.terms.specs.Refusals.{Verdict, faultless, refusal, gate, then}
+use Rattle.layout.specs.Words.{roomOf, rightLength}
+use Rattle.layout.specs.Numbers.{rightNumbers, numbersTable}
+use Rattle.table_bytes.specs.Reading.{read, numbersRead, accept, readTable}
+use Rattle.guarantees.specs.FinishFigure.{formerFinishesVerdict, formerVerdict}
+use Rattle.justrave.specs.Exported.{started, startedOf}
+use Rattle.on_words.specs.Begins.{Begins}
+
+-- what such a unit tested once the numbers were read: 10, 6, and 7 by the former figure
+unfoldable pub formerLast : Table → (rest : List ℕ) → Verdict
+formerLast t rest = then (gate (refusal 10) (eqb (length rest) 0) faultless) (then (rateSumVerdict t) (formerFinishesVerdict t))
+
+-- bytes that it read as the table t
+pub record FormerlyRead (limit : ℕ) (bytes : List ℕ) (t : Table) : Type 0 where
+  pub rest : List ℕ
+  pub numbers : numbersRead limit bytes ≡ read t rest
+  pub last : formerLast t rest ≡ faultless
+
+abbrev pub Still-read : Type 0
+Still-read = (limit : ℕ) (bytes : List ℕ) (t : Table) → FormerlyRead limit bytes t → readTable limit bytes ≡ accept t
+
+-- a start from them tells 0, and begins that table
+abbrev pub Installed-bytes-begin : Type 0
+Installed-bytes-begin =
+    (most : ℕ) (bytes : List ℕ) (t : Table) (first : ℕ) (words : List ℕ) → rightLength most words ≡ true → FormerlyRead (roomOf words) bytes t → first ≤ maxSlot
+    → (started most bytes first words .outcome ≡ 0) × Begins (roomOf words) t first (started most bytes first words .words)
+
+-- and so does one from a table's numbers
+abbrev pub Installed-numbers-begin : Type 0
+Installed-numbers-begin =
+    (most : ℕ) (numbers : List ℕ) (first : ℕ) (words : List ℕ) → rightLength most words ≡ true → rightNumbers (roomOf words) numbers ≡ true
+    → formerVerdict (roomOf words) (numbersTable (roomOf words) numbers) ≡ faultless → first ≤ maxSlot
+    → (startedOf most numbers first words .outcome ≡ 0) × Begins (roomOf words) (numbersTable (roomOf words) numbers) first (startedOf most numbers first words .words)
