@@ -35,7 +35,7 @@ tableBurst b = table 4 1 (row 1 b 1 4 ∷ [])
 unfoldable pub tableDenominator : ℕ → Table
 tableDenominator d = table d 1 (row 1 65536 1 65536 ∷ [])
 
--- case 11: D=5; place 0 n=1 b=6; place 1 n=2 b=5, with this L
+-- case 11: a probe with two fifths of the line below a pump with one fifth and a burst of 6; the probe has this L
 unfoldable pub tableFive : ℕ → Table
 tableFive within = table 5 2 (row 1 6 1 5 ∷ row 2 5 1 within ∷ [])
 
