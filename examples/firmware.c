@@ -30,6 +30,16 @@ static const uint32_t table[TABLE_NUMBERS] = {
     8, 160, 8, 50,
 };
 
+/* The same devices as a fitter might list them, as bytes: nobody has said yet which is the most urgent. */
+static const uint8_t listed[] = {
+    20, PLACES,
+    8, 0xA0, 1, 8, 50, /* 160 takes two bytes */
+    4, 60, 3, 25,
+    2, 20, 1, 15,
+    2, 20, 1, 15,
+    4, 40, 2, 10,
+};
+
 /* What falls due before which slot. A real unit has its interrupts here. */
 static const struct {
     uint64_t slot;
@@ -125,6 +135,19 @@ static void tell_bytes(void)
     }
 }
 
+/* Priorities that nobody knows are found from the needs. The probes are alike, so that the list comes to the table above. */
+static void tell_order(void)
+{
+    uint8_t ordered[sizeof listed];
+    uint64_t length[JUSTRAVE_ORDER_ANSWER];
+    uint64_t other[STATE_WORDS];
+
+    if (!refused("order", justrave_order(listed, sizeof listed, ordered, sizeof ordered, length, JUSTRAVE_ORDER_ANSWER))
+        && !refused("start", justrave_start(ordered, length[0], 0, other, STATE_WORDS))) {
+        printf("a list of its devices, put in order, makes %s state\n", memcmp(state, other, sizeof state) == 0 ? "the same" : "another");
+    }
+}
+
 /* What bad input gets: a number. The state stays what it was; only the words of a start that is refused are set to 0. */
 static void show_refusals(void)
 {
@@ -148,6 +171,7 @@ int main(void)
         return 1;
     }
     tell_bytes();
+    tell_order();
     tell_handset();
     for (uint64_t slot = 0; slot < SLOTS && turn(slot); slot++) {
     }

@@ -32,9 +32,9 @@
  * The stack. The library follows the System V calling convention of x86-64. It finds the stack aligned to 16 bytes, as every caller
  * leaves it, and keeps it so; and it uses the red zone, the 128 bytes below the stack pointer. An interrupt handler that runs on the same
  * stack must skip these 128 bytes before it writes, as the handlers of a process's signals do. How many bytes of stack an accepted
- * call takes, its return address and the red zone included, measured with 16 places by tests/stack: a start from bytes 1,232, one from
- * numbers 1,056, a write 960, figures 624, a run and a lead 128, a slot 112, a post, an account and a standing 96. JUSTRAVE_STACK is
- * more than each.
+ * call takes, its return address and the red zone included, measured with 16 places by tests/stack: an order 2,064, a start from bytes
+ * 1,344, one from numbers 1,248, a write 736, figures 624, a run and a lead 128, a slot 112, a post, an account and a standing 96.
+ * JUSTRAVE_STACK is more than each.
  */
 #ifndef JUSTRAVE_H
 #define JUSTRAVE_H
@@ -69,13 +69,14 @@ extern "C" {
 #define JUSTRAVE_TABLE_NUMBERS(places) (2 + 4 * (places))
 
 /* More bytes of stack than any call was measured to take. */
-#define JUSTRAVE_STACK 2048
+#define JUSTRAVE_STACK 2560
 
 /* How many words, or for the lead how many signed numbers, each answer has. */
 #define JUSTRAVE_SLOT_ANSWER 2
 #define JUSTRAVE_FIGURES_ANSWER 2
 #define JUSTRAVE_LEAD_ANSWER 1
 #define JUSTRAVE_WRITE_ANSWER 1
+#define JUSTRAVE_ORDER_ANSWER 1
 #define JUSTRAVE_ACCOUNT_ANSWER 2
 #define JUSTRAVE_STANDING_ANSWER 2
 
@@ -92,10 +93,10 @@ extern "C" {
 #define JUSTRAVE_MAX_SLOT ((uint64_t)1 << 62)
 
 /*
- * An outcome, which every call returns but justrave_layout and justrave_state_words. 0 is accepted. Any other is a refusal: its number, of document 01 or
- * 255, in the low 8 bits, and above them the place that the refusal names, plus 1, or 0 if it names none. Refusals 3, 4, 5 and 7 always
- * name a place, so an outcome is never equal to their names: compare JUSTRAVE_NUMBER(outcome) with a name, and the outcome itself with
- * nothing but JUSTRAVE_ACCEPTED.
+ * An outcome, which every call returns but justrave_layout and justrave_state_words. 0 is accepted. Any other is a refusal: its number,
+ * of documents 01 and 02 or 255, in the low 8 bits, and above them the place that the refusal names, plus 1, or 0 if it names none.
+ * Refusals 3, 4, 5 and 7 always name a place, so an outcome is never equal to their names: compare JUSTRAVE_NUMBER(outcome) with a name,
+ * and the outcome itself with nothing but JUSTRAVE_ACCEPTED.
  *
  * A refused call changes nothing: the state, the log, the buffer and the answer are what they were. Only a start that is refused
  * for its table or its slot number writes: it sets every word of the state to 0, and every call on such words but a start is refused 23.
@@ -119,6 +120,7 @@ enum {
     JUSTRAVE_FIRST_SLOT = 12,  /* the first slot number is above JUSTRAVE_MAX_SLOT */
     JUSTRAVE_LOG_LENGTH = 13,  /* the log is longer than JUSTRAVE_MAX_LOG bytes */
     JUSTRAVE_BUFFER = 14,      /* the lent buffer is shorter than the table's bytes */
+    JUSTRAVE_NO_ORDER = 15,    /* no order of the requestors passes */
 
     /* caused by the state */
     JUSTRAVE_BACKLOG = 21,     /* more than 65,535 transfers would wait at the place */
@@ -163,12 +165,27 @@ uint64_t justrave_start(const uint8_t *table, size_t table_length, uint64_t firs
 
 /*
  * The same for a table given as numbers, JUSTRAVE_TABLE_NUMBERS(places) of them for words with room for so many places: D, N, then rate,
- * burst and the need's j and L of each place. The four numbers of every place past N-1 are 0, or the table is refused 2. Nobody needs an
- * encoder for a table's bytes: start it from its numbers, and justrave_write writes them. Refused 255; then 1 and 2; then 3, 4 and 5 of
- * each place before the next; then 6, 7 and 12. The words are then all 0, but for 255, which changes nothing.
+ * burst and the need's j and L of each place. The four numbers of every place past N-1 are 0, or the table is refused 2. Of a table that
+ * is accepted nobody has to encode the bytes: start it from its numbers, and justrave_write writes them. Refused 255; then 1 and 2; then
+ * 3, 4 and 5 of each place before the next; then 6, 7 and 12. The words are then all 0, but for 255, which changes nothing.
  */
 uint64_t justrave_start_numbers(const uint32_t *numbers, size_t numbers_length, uint64_t first, uint64_t *state,
                                 size_t state_length);
+
+/*
+ * For whoever knows the requestors and not their priorities. The table's bytes list them in any order, up to JUSTRAVE_MAX_PLACES of
+ * them, as no words are lent; written to the buffer's start are the bytes of a table with the same requestors that a start takes, and
+ * the rest of the buffer is left. The answer is how many bytes were written: as many as were read. justrave_write cannot write a list
+ * that no start takes. The bytes of one are D, N, then rate, burst, j and L of each requestor: seven bits of a number to a byte, the low
+ * ones first, with the top bit set in every byte of a number but its last.
+ *
+ * Where several orders would do, the list decides. The lowest priority goes to the last requestor in the list that can bear all others
+ * above it, which is to say that its finish figure there is at most its need's L; it leaves the list, the others stay as they stood, and
+ * the next higher priority is given away in the same way. So a table that a start takes comes back as it is. Refused 255, then 8, 9 and
+ * 1 to 5 number by number, where a place is one of the list, then 10, 6, 15, 14; never 7.
+ */
+uint64_t justrave_order(const uint8_t *table, size_t table_length, uint8_t *buffer, size_t buffer_length, uint64_t *answer,
+                        size_t answer_length);
 
 /* Adds `count` transfers (0 is allowed) to a place's backlog. Refused 255, 23, 11, 21. */
 uint64_t justrave_post(uint64_t *state, size_t state_length, size_t place, uint64_t count);

@@ -3,6 +3,7 @@
 //! Time on the line is cut into **slots**, and a slot carries at most one **transfer**. The arbiter says, slot by slot, whose
 //! transfer goes next. Each requestor has a place, 0 the most urgent, with a rate, a burst and a need; the table of them is
 //! given as bytes or as numbers ([`Table`]). What the arbiter answers is proved; this crate is the safe door to it for Rust, and holds no rule of its own.
+//! Where nobody knows which requestor should have which place, [`order()`] finds places for all of them.
 //!
 //! ```
 //! use justrave::{Arbiter, SlotAnswer, Slots, Transfers};
@@ -35,12 +36,14 @@
 compile_error!("justrave is built for machines whose sizes have 64 bits");
 
 mod arbiter;
+mod order;
 mod refusal;
 pub mod sys;
 mod table;
 mod units;
 
 pub use arbiter::{Account, Arbiter, Figures, SlotAnswer, Standing};
+pub use order::order;
 pub use refusal::{Cause, Refusal};
 pub use table::{Requestor, Table};
 pub use units::{Slots, Transfers};

@@ -25,8 +25,8 @@ pub enum Cause {
 /// ```
 #[derive(Clone, Copy, Debug, PartialEq, Eq, Hash)]
 pub struct Refusal {
-    /// Document 01's number: 1 to 14 or 21 to 23. 255 says that the library that was linked has states or tables of another
-    /// length than this crate was written for.
+    /// The number that documents 01 and 02 give it: 1 to 15 or 21 to 23. 255 says that the library that was linked has states or
+    /// tables of another length than this crate was written for.
     pub number: u8,
     /// The place at fault, where the number names one (3, 4, 5, 7).
     pub place: Option<usize>,
@@ -61,6 +61,7 @@ impl Refusal {
             12 => "the first slot number is above its limit",
             13 => "the log is too long",
             14 => "the buffer is too short for the table's bytes",
+            15 => "no order of the requestors passes",
             21 => "the backlog would pass its limit",
             22 => "the slot number would pass its limit",
             23 => "the state breaks a rule",

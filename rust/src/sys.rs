@@ -1,5 +1,5 @@
 //! The library's functions as it exports them. `include/justrave.h` says what each does and what a caller owes; [`crate::Arbiter`]
-//! sees to it that nothing is owed.
+//! and [`crate::order()`] see to it that nothing is owed.
 //!
 //! A slice crosses as a pointer and a length. Where the length is 0 nothing is read or written behind the pointer, and it may be
 //! null. Memory that is lent for writing overlaps no other memory of the same call.
@@ -25,6 +25,15 @@ extern "C" {
         first: u64,
         state: *mut u64,
         state_length: usize,
+    ) -> u64;
+
+    pub fn justrave_order(
+        table: *const u8,
+        table_length: usize,
+        buffer: *mut u8,
+        buffer_length: usize,
+        answer: *mut u64,
+        answer_length: usize,
     ) -> u64;
 
     pub fn justrave_post(state: *mut u64, state_length: usize, place: usize, count: u64) -> u64;

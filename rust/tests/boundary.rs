@@ -20,6 +20,8 @@ const NUMBERS: usize = numbers_for(ROOM);
 /// What stands in memory that must not be written.
 const UNTOUCHED: u64 = 0xA5A5_A5A5_A5A5_A5A5;
 const T: [u8; 10] = [4, 2, 1, 8, 1, 4, 1, 4, 1, 7];
+/// T's requestors the other way round: no start takes them so.
+const LISTED: [u8; 10] = [4, 2, 1, 4, 1, 7, 1, 8, 1, 4];
 
 // The functions over slices. SAFETY of each: a slice has its length behind it, and exclusive borrows do not overlap.
 
@@ -58,6 +60,14 @@ fn write(state: &[u64], buffer: &mut [u8], answer: &mut [u64]) -> u64 {
     let answer = answer.as_mut_ptr();
     unsafe {
         sys::justrave_write(state.as_ptr(), state.len(), buffer.as_mut_ptr(), buffer.len(), answer, answer_length)
+    }
+}
+
+fn order(table: &[u8], buffer: &mut [u8], answer: &mut [u64]) -> u64 {
+    let answer_length = answer.len();
+    let answer = answer.as_mut_ptr();
+    unsafe {
+        sys::justrave_order(table.as_ptr(), table.len(), buffer.as_mut_ptr(), buffer.len(), answer, answer_length)
     }
 }
 
@@ -185,6 +195,22 @@ fn an_answer_of_another_length() {
             assert_eq!(kept, state);
             assert_eq!(buffer, [0xA5; 20]);
             assert!(answer.iter().all(|&word| word == UNTOUCHED) && lead_answer.iter().all(|&lead| lead == -7));
+        }
+    }
+}
+
+/// 255 comes ahead of 8, 3, 10, 6, 15 and 14, and of an order that would be found.
+#[test]
+fn an_order_with_an_answer_of_another_length() {
+    let tables: [&[u8]; 7] =
+        [&[], &[4, 1, 9], &[4, 1, 1, 8, 1, 4, 0], &[4, 2, 3, 4, 1, 2, 2, 4, 1, 8], &[4, 1, 1, 8, 1, 3], &LISTED, &T];
+    for table in tables {
+        for length in [0, 2, 3, 99] {
+            for room in [0, 20] {
+                let (mut answer, mut buffer) = (vec![UNTOUCHED; length], vec![0xA5; room]);
+                assert_eq!(order(table, &mut buffer, &mut answer), 255, "{table:?}, {length} words");
+                assert!(answer.iter().all(|&word| word == UNTOUCHED) && buffer.iter().all(|&byte| byte == 0xA5));
+            }
         }
     }
 }
@@ -320,6 +346,45 @@ fn refused_calls_write_nothing() {
     assert!(log.iter().all(|&byte| byte == 0xA5));
 }
 
+#[test]
+fn refused_orders_write_nothing() {
+    for (table, room, outcome) in [
+        (&[][..], 20, 8),
+        (&LISTED[..9], 20, 8),
+        (&[0x84, 0], 20, 9),
+        (&[0], 20, 1),
+        (&[4, 17], 20, 2),
+        (&[4, 2, 1, 4, 1, 7, 5], 20, 3 + 256 * 2),
+        (&[4, 2, 1, 3], 20, 4 + 256),
+        (&[4, 2, 1, 4, 1, 7, 1, 8, 1, 0], 20, 5 + 256 * 2),
+        (&[4, 2, 1, 4, 1, 7, 1, 8, 1, 4, 0], 20, 10),
+        (&[4, 2, 3, 4, 1, 2, 2, 4, 1, 8], 20, 6),
+        (&[4, 2, 1, 4, 1, 6, 1, 8, 1, 4], 20, 15),
+        (&[4, 2, 1, 4, 1, 6, 1, 8, 1, 4], 0, 15),
+        (&LISTED, 9, 14),
+        (&LISTED, 0, 14),
+    ] {
+        let (mut answer, mut buffer) = ([UNTOUCHED], vec![0xA5; room]);
+        assert_eq!(order(table, &mut buffer, &mut answer), outcome, "{table:?} into {room} bytes");
+        assert_eq!((answer, buffer), ([UNTOUCHED], vec![0xA5; room]), "{table:?} into {room} bytes");
+    }
+}
+
+/// An order of as many requestors as there may be, and of one more.
+#[test]
+fn an_order_of_every_number_of_requestors() {
+    for places in 1..=MOST + 1 {
+        let (bytes, _) = table_of(places, MOST);
+        let (mut buffer, mut answer) = (vec![0xA5; bytes.len()], [UNTOUCHED]);
+        if places <= MOST {
+            assert_eq!(order(&bytes, &mut buffer, &mut answer), 0, "{places} requestors");
+            assert_eq!((&buffer, answer), (&bytes, [bytes.len() as u64]));
+        } else {
+            assert_eq!((order(&bytes, &mut buffer, &mut answer), answer), (2, [UNTOUCHED]));
+        }
+    }
+}
+
 /// Accepted calls, each with memory on both sides of what it is lent.
 #[test]
 fn nothing_is_written_beside_lent_memory() {
@@ -345,6 +410,14 @@ fn nothing_is_written_beside_lent_memory() {
     assert_eq!((memory[0], memory[WORDS + 1]), (UNTOUCHED, UNTOUCHED));
 }
 
+#[test]
+fn an_order_writes_nothing_beside_lent_memory() {
+    let (mut buffer, mut answer) = ([0xA5; 22], [UNTOUCHED; 3]);
+    assert_eq!(order(&LISTED, &mut buffer[1..21], &mut answer[1..2]), 0);
+    assert_eq!((buffer[0], &buffer[1..11], &buffer[11..]), (0xA5, &T[..], &[0xA5; 11][..]));
+    assert_eq!(answer, [UNTOUCHED, 10, UNTOUCHED]);
+}
+
 /// With length 0 nothing is read or written behind a pointer, and it may be null.
 #[test]
 fn null_of_length_0_may_be_lent() {
@@ -368,6 +441,23 @@ fn null_of_length_0_may_be_lent() {
     assert_eq!(state, [0; WORDS]);
 }
 
+/// The same of an order, which is lent no state.
+#[test]
+fn null_of_length_0_may_be_lent_to_an_order() {
+    use core::ptr::{null, null_mut};
+    let (mut buffer, mut answer) = ([0xA5; 20], [UNTOUCHED]);
+    let (bytes, words) = (buffer.as_mut_ptr(), answer.as_mut_ptr());
+    // SAFETY: each pointer has its length behind it, and behind the null ones that is nothing.
+    unsafe {
+        assert_eq!(sys::justrave_order(null(), 0, bytes, 20, words, 1), 8);
+        assert_eq!(sys::justrave_order(LISTED.as_ptr(), 10, null_mut(), 0, words, 1), 14);
+        assert_eq!(sys::justrave_order(null(), 0, null_mut(), 0, words, 1), 8);
+        assert_eq!(sys::justrave_order(LISTED.as_ptr(), 10, bytes, 20, null_mut(), 0), 255);
+        assert_eq!(sys::justrave_order(null(), 0, null_mut(), 0, null_mut(), 0), 255);
+    }
+    assert_eq!((buffer, answer), ([0xA5; 20], [UNTOUCHED]));
+}
+
 #[test]
 fn empty_memory_may_be_lent() {
     let mut state = started();
@@ -376,4 +466,8 @@ fn empty_memory_may_be_lent() {
     assert_eq!(run(&mut state, &mut []), 0);
     assert_eq!(lead(&state, 1, &[], &mut lead_answer), 0);
     assert_eq!((state, lead_answer), (kept, [0]));
+    let mut answer = [UNTOUCHED];
+    assert_eq!(order(&[], &mut [], &mut answer), 8);
+    assert_eq!(order(&LISTED, &mut [], &mut answer), 14);
+    assert_eq!(answer, [UNTOUCHED]);
 }

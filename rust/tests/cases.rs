@@ -120,6 +120,23 @@ fn request_1_a_probe_with_one_slot_less() {
     assert_eq!(refused(&[5, 2, 1, 6, 1, 5, 2, 5, 1, 3]), (7, Some(1)));
 }
 
+/// The other way round no start takes T; in order it is T again. One slot less for the probe, and no order passes.
+#[test]
+fn request_2_a_fitter_who_guessed_the_priorities() {
+    let guessed = [0x04, 0x02, 0x01, 0x04, 0x01, 0x07, 0x01, 0x08, 0x01, 0x04];
+    assert_eq!(refused(&guessed), (7, Some(1)));
+    let mut buffer = [0xA5; 12];
+    assert_eq!(justrave::order(&guessed, &mut buffer), Ok(10));
+    assert_eq!(buffer[..10], T);
+    assert_eq!(buffer[10..], [0xA5; 2]);
+    assert_eq!(justrave::order(&T, &mut buffer), Ok(10));
+    assert_eq!(buffer[..10], T);
+    let mut hasty = guessed;
+    hasty[5] = 6;
+    let refusal = Refusal { number: 15, place: None, cause: Cause::Input };
+    assert_eq!(justrave::order(&hasty, &mut buffer), Err(refusal));
+}
+
 #[test]
 fn case_12_others_who_begin_later() {
     let mut line = started(&[4, 2, 1, 40, 1, 100, 1, 4, 1, 100]);

@@ -1,6 +1,6 @@
-//! What the wrapper adds of its own: the sizes of its types in each room, and words that are kept and given back.
+//! What the wrapper adds of its own: the sizes of its types in each room, words that are kept and given back, and what an order tells.
 
-use justrave::{sys, Arbiter, Requestor, Slots, Standing, Table, Transfers};
+use justrave::{sys, Arbiter, Cause, Refusal, Requestor, Slots, Standing, Table, Transfers};
 
 fn sizes<const ROOM: usize>() {
     // SAFETY: the function touches no memory.
@@ -66,4 +66,23 @@ fn where_nothing_is_said_there_is_room_for_16() {
     let from_bytes = Arbiter::start(&[4, 1, 1, 8, 1, 4], Slots(0)).expect("it is accepted");
     assert_eq!(from_numbers, from_bytes);
     assert_eq!(from_bytes.words().len(), 99);
+}
+
+/// A length where an order is found, with the rest of the buffer as it was; a refusal with its place and its cause where none is.
+#[test]
+fn an_order_tells_a_length_or_a_refusal() {
+    let listed = [4, 2, 1, 4, 1, 7, 1, 8, 1, 4];
+    let mut buffer = [0xA5; 12];
+    for (table, number, place) in
+        [(&[][..], 8, None), (&[4, 2, 1, 4, 1, 7, 5], 3, Some(1)), (&[4, 2, 1, 4, 1, 6, 1, 8, 1, 4], 15, None)]
+    {
+        let refusal = Refusal { number, place, cause: Cause::Input };
+        assert_eq!(justrave::order(table, &mut buffer), Err(refusal));
+    }
+    assert_eq!(justrave::order(&listed, &mut buffer[..9]).unwrap_err().number, 14);
+    assert_eq!(justrave::order(&listed, &mut []).unwrap_err().number, 14);
+    assert_eq!(justrave::order(&[], &mut []).unwrap_err().number, 8);
+    assert_eq!(buffer, [0xA5; 12]);
+    assert_eq!(justrave::order(&listed, &mut buffer), Ok(10));
+    assert_eq!(buffer, [4, 2, 1, 8, 1, 4, 1, 4, 1, 7, 0xA5, 0xA5]);
 }

@@ -1,13 +1,14 @@
--- The walks of the checks over the rows of words: check 7 from the last place up, and the rows past place N−1. For any room. Assumes
--- nothing.
+-- The walks over the rows of words: both sums from place 0 down, check 7 from the last place up, and the rows past place N−1. For any
+-- room. Assumes nothing.
 use mathlib.Core.Path.{_≡_, refl, ap, sym, _∙_}
 use mathlib.Core.Bool.{Bool, true, false}
 use mathlib.Core.List.{List}
 use Prim.Native.Nat.{ℕ, suc, _+_, _-_, _≤_, _<_}
 use native.Mathlib.Omega.{arith}
-use lib.ListN.{length, drop, length-take}
+use lib.ListN.{length, take, drop, length-take}
 use lib.Seq.{drop-cons, getD-take}
-use Rattle.lists.specs.Sums.{every}
+use Rattle.lists.specs.Sums.{total, every}
+use Rattle.lists.proofs.Sums.{total-take-rises}
 use Rattle.lists.proofs.Tests.{every-pass, every-stop, every-end}
 use Rattle.terms.specs.declared.place.Requestor.{Requestor}
 use Rattle.terms.specs.Table.{rate, burst, noRequestor, requestorClear, requestorAt, requestorsOf, eachPlace, tailVerdict}
@@ -17,6 +18,32 @@ use Rattle.terms.proofs.Places.{each-end}
 use Rattle.layout.specs.Words.{wordCount, roomOf, rowIn}
 use Rattle.admission.specs.Checked.{tableIn, rowsIn}
 use Rattle.admission.proofs.Rows.{rows-length, row-at, sum-next}
+
+-- ---- both sums above a place
+
+-- of the rows above place q so far
+pub record Summed (words : List ℕ) (bursts rates q p : ℕ) : Type 0 where
+  pub below : q ≤ p
+  pub bursts-are : bursts ≡ burstsAbove q (rowsIn words)
+  pub rates-are : rates ≡ ratesAbove q (rowsIn words)
+
+module _ (words : List ℕ) (bursts rates q p : ℕ) (v : Summed words bursts rates q p) (h : q < p) (there : wordCount p ≤ length words) where
+  one-more : (f : Requestor → ℕ) → f noRequestor ≡ 0 → total f (take (q + 1) (rowsIn words)) ≡ total f (take q (rowsIn words)) + f (rowIn words q)
+  one-more f none = let back : q + 1 - 1 ≡ q = omega arith in rw back at (sum-next words f none (q + 1) (omega arith) (omega arith))
+
+  pub summed-more : Summed words (bursts + rowIn words q .burst) (rates + rowIn words q .rate) (q + 1) p
+  summed-more = record {
+    below = omega arith;
+    bursts-are = omega (arith, v .bursts-are, one-more burst refl);
+    rates-are = omega (arith, v .rates-are, one-more rate refl);
+  }
+
+  -- no sum is above the whole
+  pub bursts-below : bursts + rowIn words q .burst ≤ burstsAbove p (rowsIn words)
+  bursts-below = omega (arith, summed-more .bursts-are, total-take-rises burst (q + 1) p (rowsIn words) (omega arith))
+
+  pub rates-below : rates + rowIn words q .rate ≤ ratesAbove p (rowsIn words)
+  rates-below = omega (arith, summed-more .rates-are, total-take-rises rate (q + 1) p (rowsIn words) (omega arith))
 
 -- ---- check 7, from the last place up
 

@@ -1,5 +1,5 @@
-// The sums above a place. Each calls itself for one place fewer. That it fits is asked of the caller, who knows what the numbers are
-// held to.
+// The sums above a place: each by itself by recursion, from a place to the one above it, and both at once by a loop. That they fit is asked
+// of the caller, who knows what the numbers are held to.
 use layout::words::burst;
 use layout::words::rate;
 ghost use mathlib.Core.Path.{_≡_};
@@ -32,5 +32,29 @@ pub fn rates_above(words: &[u64], p: usize) -> u64
     } else {
         let q = p - 1;
         rates_above(words, q) + rate(words, q)
+    }
+}
+
+pub struct Sums {
+    pub bursts: u64,
+    pub rates: u64,
+}
+
+// Both sums above p, for the search for an order of places.
+pub fn sums_above(words: &[u64], p: usize) -> Sums
+    requires { ⌜ (wordCount p ≤ length (now words)) × (burstsAbove p (rowsIn (now words)) < 2 ^ 64) × (ratesAbove p (rowsIn (now words)) < 2 ^ 64) ⌝ }
+    ensures { λ s. ⌜ s ≡ record { bursts = burstsAbove p (rowsIn (now (words .entry))); rates = ratesAbove p (rowsIn (now (words .entry))) } ⌝ }
+{
+    let mut bursts: u64 = 0;
+    let mut rates: u64 = 0;
+    let mut q: usize = 0;
+    while q < p {
+        bursts = bursts + burst(words, q);
+        rates = rates + rate(words, q);
+        q = q + 1;
+    }
+    Sums {
+        bursts: bursts,
+        rates: rates,
     }
 }

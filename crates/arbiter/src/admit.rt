@@ -10,6 +10,7 @@ ghost use mathlib.Core.Path.{_≡_};
 ghost use mathlib.Core.Bool.{true};
 ghost use Rattle.terms.specs.Limits.{maxPlaces};
 ghost use Rattle.terms.specs.Refusals.{verdictOf, refusal, gate};
+ghost use Rattle.terms.specs.Table.{tableVerdict};
 ghost use Rattle.terms.specs.Figures.{admissionVerdict};
 ghost use Rattle.layout.specs.Words.{roomOf, rightLength};
 ghost use Rattle.admission.specs.Checked.{tableIn};
@@ -26,7 +27,17 @@ pub(crate) fn admit_right(words: &[u64]) -> Verdict
     }
 }
 
-// Of any words: those of another length are no state's, which is 23.
+// Checks 1 to 6 of any words: those of another length than a state's are no state's, which is 23.
+pub fn check_laid(words: &[u64]) -> Verdict
+    ensures { λ v. ⌜ verdictOf v ≡ gate (refusal 23) (rightLength maxPlaces (now (words .entry))) (tableVerdict (roomOf (now (words .entry))) (tableIn (now (words .entry)))) ⌝ }
+{
+    if length_is_right(words, Arbiter::MAX_PLACES) {
+        return check_table(words);
+    }
+    Verdict::Fault(Cause::State(StateRefusal::Unsound))
+}
+
+// Checks 1 to 7 of them.
 pub fn admit(words: &[u64]) -> Verdict
     ensures { λ v. ⌜ verdictOf v ≡ gate (refusal 23) (rightLength maxPlaces (now (words .entry))) (admissionVerdict (roomOf (now (words .entry))) (tableIn (now (words .entry)))) ⌝ }
 {

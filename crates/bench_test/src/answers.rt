@@ -24,10 +24,12 @@ use groups::reading::read_number;
 use groups::writing::number_len;
 use groups::writing::write_number;
 use in_place::slot_of_a_loan;
+use ordering::order::order;
 use replay::replay;
 use terms::answers::AccountAnswer;
 use terms::answers::FiguresAnswer;
 use terms::answers::LeadAnswer;
+use terms::answers::OrderAnswer;
 use terms::answers::ReadAnswer;
 use terms::answers::RunAnswer;
 use terms::answers::SlotAnswer;
@@ -47,6 +49,18 @@ pub fn reads_table(bytes: &[u8]) {
     match a {
         ReadAnswer::Accepted => say(printing::ACCEPTED),
         ReadAnswer::Refused(c) => refused(c),
+    }
+}
+
+// The table in order; a refused one is of zeros.
+pub fn orders(t: Table) {
+    let done = order(t);
+    let u = done.table;
+    let a = done.answer;
+    table(u);
+    match a {
+        OrderAnswer::Ordered => say(printing::ACCEPTED),
+        OrderAnswer::Refused(c) => refused(c),
     }
 }
 

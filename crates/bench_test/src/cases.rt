@@ -4,6 +4,7 @@ use crate::answers::figures_of;
 use crate::answers::leads;
 use crate::answers::lends;
 use crate::answers::looks;
+use crate::answers::orders;
 use crate::answers::reads_number;
 use crate::answers::reads_table;
 use crate::answers::replays;
@@ -156,6 +157,16 @@ fn written() {
     writes_table(t(), &mut short);
 }
 
+// Document 02, request 2: T's requestors the other way round, then with one slot less for the probe, and with a rate of 0 at place 1.
+fn put_in_order() {
+    case(0);
+    orders(two_places(4, row(1, 4, 7), row(1, 8, 4)));
+    case(0);
+    orders(two_places(4, row(1, 4, 6), row(1, 8, 4)));
+    case(0);
+    orders(two_places(4, row(1, 4, 6), row(0, 8, 4)));
+}
+
 // A place, one that is not there, and a state with a credit above its burst.
 fn looks_into_a_state() {
     let s = t_with(account(5, 3), account(2, 1), 7);
@@ -181,4 +192,5 @@ pub fn all() {
     lists_of_calls();
     written();
     looks_into_a_state();
+    put_in_order();
 }

@@ -7,7 +7,7 @@ use Rattle.terms.specs.Answers.{Answer, postAnswerOf, slotAnswerOf, runAnswerOf
 use Rattle.terms.specs.State.{State}
 use Rattle.arbiter.specs.ByValue.{held, given}
 use Rattle.rule.specs.Log.{Outcome}
-use Rattle.table_bytes.specs.Reading.{TableRead}
+use Rattle.terms.specs.TableResult.{TableResult}
 use Rattle.calls.specs.declared.post.PostResult.{PostResult}
 use Rattle.calls.specs.declared.slot.SlotResult.{SlotResult}
 use Rattle.calls.specs.declared.run.RunResult.{RunResult}
@@ -22,5 +22,5 @@ slotResultOf r = record { state = held (r .state); answer = slotAnswerOf (r .ans
 abbrev pub outcomeOf : RunResult → (log : List ℕ) → Outcome
 outcomeOf r log = record { state = held (r .state); answer = runAnswerOf (r .answer); log = log }
 
-abbrev pub readResultOf : ReadResult → TableRead
+abbrev pub readResultOf : ReadResult → TableResult
 readResultOf r = record { table = given (r .table); answer = readAnswerOf (r .answer) }

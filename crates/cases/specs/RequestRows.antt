@@ -1,11 +1,14 @@
 -- Document 02: the worked examples of the change requests, and edges of each, worked out by hand.
-use mathlib.Core.List.{List, [], _∷_}
+use mathlib.Core.List.{List, [], _∷_, _++_}
 use Prim.Native.Nat.{ℕ}
+use lib.ListN.{replicate}
 use Rattle.terms.specs.Table.{Table}
-use Rattle.terms.specs.Refusals.{faultless, fault, refusalAt}
+use Rattle.terms.specs.declared.place.Requestor.{Requestor}
+use Rattle.terms.specs.Refusals.{faultless, fault, refusal, refusalAt}
 use Rattle.terms.specs.Answers.{accepted, refused}
 use Rattle.terms.specs.Asked as asked
-use Rattle.cases.specs.Rows.{row, table, allZero, Row, reading, admission, formerAdmission, askingFigures, bothFinishes, after, read-as, found, told-figures, finished}
+use Rattle.table_bytes.specs.Writing as writing
+use Rattle.cases.specs.Rows.{row, table, allZero, Row, reading, admission, formerAdmission, askingFigures, bothFinishes, ordering, orderingBytes, after, read-as, written-as, found, told-figures, finished, ordered-as, rowsOf}
 use Rattle.cases.specs.BenchRows.{tableT, tableTShort, tableFive}
 
 -- request 1: case 11's table with a rate of 3 and a need of two transfers at place 1
@@ -57,4 +60,156 @@ finishRows =
     ∷ record { asked = bothFinishes tableT 1 255; written = finished 1023 1023 }
     ∷ record { asked = formerAdmission tableT; written = found faultless }
     ∷ record { asked = formerAdmission tableTShort; written = found (fault (refusalAt 7 1)) }
+    ∷ []
+
+-- request 2: three alike but for their L, of which the figures at places 0, 1 and 2 are 4, 6 and 8
+unfoldable pub tableThree : (first second third : ℕ) → Table
+tableThree first second third = table 4 3 (row 1 4 1 first ∷ row 1 4 1 second ∷ row 1 4 1 third ∷ [])
+
+-- a pump, two probes, a handset and a service log: the example basin in README's order, and as a fitter might list them
+unfoldable pub tableBasin : Table
+tableBasin = table 20 5 (row 4 40 2 10 ∷ row 2 20 1 15 ∷ row 2 20 1 15 ∷ row 4 60 3 25 ∷ row 8 160 8 50 ∷ [])
+
+unfoldable pub tableGuessed : Table
+tableGuessed = table 20 5 (row 8 160 8 50 ∷ row 4 60 3 25 ∷ row 2 20 1 15 ∷ row 2 20 1 15 ∷ row 4 40 2 10 ∷ [])
+
+-- sixteen alike but for their L
+unfoldable pub tableSixteen : (withins : List ℕ) → Table
+tableSixteen withins = table 16 16 (rowsOf 16 (replicate 16 1) (replicate 16 16) (replicate 16 1) withins)
+
+-- to each its figure at its place: 16, and then rounded up 16 + 16 × p / (16 − p)
+unfoldable pub withinsRising : List ℕ
+withinsRising = 16 ∷ 18 ∷ 19 ∷ 20 ∷ 22 ∷ 24 ∷ 26 ∷ 29 ∷ 32 ∷ 37 ∷ 43 ∷ 52 ∷ 64 ∷ 86 ∷ 128 ∷ 256 ∷ []
+
+-- the same from the last place to the first
+unfoldable pub withinsFalling : (last first : ℕ) → List ℕ
+withinsFalling last first = last ∷ 128 ∷ 86 ∷ 64 ∷ 52 ∷ 43 ∷ 37 ∷ 32 ∷ 29 ∷ 26 ∷ 24 ∷ 22 ∷ 20 ∷ 19 ∷ 18 ∷ first ∷ []
+
+-- fifteen with the largest burst and L, and one that takes the rest of the line
+unfoldable pub patient : Requestor
+patient = row 1 16777216 1 1073741824
+
+unfoldable pub greedy : (within : ℕ) → Requestor
+greedy within = row 65520 16777216 255 within
+
+unfoldable pub tableWhole : List Requestor → Table
+tableWhole rows = table 65535 16 rows
+
+unfoldable pub searchRows : List Row
+searchRows =
+    -- T is in order already. The other way round it is put in order: at place 1 the pump would wait 4/3 and take 4, which is above its 4
+    record { asked = ordering tableT; written = ordered-as accepted tableT }
+    ∷ record { asked = ordering (table 4 2 (row 1 4 1 7 ∷ row 1 8 1 4 ∷ [])); written = ordered-as accepted tableT }
+    -- with L = 6 no order passes: 15, where admission finds 7 at place 1
+    ∷ record { asked = ordering tableTShort; written = ordered-as (refused (refusal 15)) allZero }
+    ∷ record { asked = admission tableTShort; written = found (fault (refusalAt 7 1)) }
+    ∷ record { asked = ordering tableBasin; written = ordered-as accepted tableBasin }
+    ∷ record { asked = ordering tableGuessed; written = ordered-as accepted tableBasin }
+    -- every order passes, and the last-listed goes lowest: the list stays as it is, either way round
+    ∷ record { asked = ordering (table 4 2 (row 1 8 1 100 ∷ row 1 4 1 50 ∷ [])); written = ordered-as accepted (table 4 2 (row 1 8 1 100 ∷ row 1 4 1 50 ∷ [])) }
+    ∷ record { asked = ordering (table 4 2 (row 1 4 1 50 ∷ row 1 8 1 100 ∷ [])); written = ordered-as accepted (table 4 2 (row 1 4 1 50 ∷ row 1 8 1 100 ∷ [])) }
+    -- a wrong order for which two pass: the third can stand at place 0 alone, and of the others the second, listed last, goes lowest
+    ∷ record {
+      asked = ordering (table 8 3 (row 1 8 1 100 ∷ row 2 16 1 100 ∷ row 1 8 1 8 ∷ []));
+      written = ordered-as accepted (table 8 3 (row 1 8 1 8 ∷ row 1 8 1 100 ∷ row 2 16 1 100 ∷ []));
+    }
+    -- at place 2 the third has the figure 10, above its 6; the second has 10 and the first 8, which both can do with, and the second is listed
+    -- later. At place 1 the third has 7, above its 6, and the first 6
+    ∷ record {
+      asked = ordering (table 4 3 (row 1 8 1 8 ∷ row 1 4 1 10 ∷ row 1 4 1 6 ∷ []));
+      written = ordered-as accepted (table 4 3 (row 1 4 1 6 ∷ row 1 8 1 8 ∷ row 1 4 1 10 ∷ []));
+    }
+    -- four of which the second goes to place 3, the first to place 2 and the fourth to place 1, though other orders pass
+    ∷ record {
+      asked = ordering (table 8 4 (row 2 16 1 11 ∷ row 1 8 1 19 ∷ row 1 9 2 19 ∷ row 2 8 1 7 ∷ []));
+      written = ordered-as accepted (table 8 4 (row 1 9 2 19 ∷ row 2 8 1 7 ∷ row 2 16 1 11 ∷ row 1 8 1 19 ∷ []));
+    }
+    -- the fourth can stand at place 0 alone; the others stay as they are listed
+    ∷ record {
+      asked = ordering (table 8 4 (row 1 8 1 100 ∷ row 1 9 1 100 ∷ row 1 10 1 100 ∷ row 1 8 1 8 ∷ []));
+      written = ordered-as accepted (table 8 4 (row 1 8 1 8 ∷ row 1 8 1 100 ∷ row 1 9 1 100 ∷ row 1 10 1 100 ∷ []));
+    }
+    -- the others keep their order in the list: once the second has the last place, the fourth gets the next
+    ∷ record {
+      asked = ordering (table 8 4 (row 1 8 1 100 ∷ row 1 9 1 100 ∷ row 1 8 1 12 ∷ row 1 10 1 12 ∷ []));
+      written = ordered-as accepted (table 8 4 (row 1 8 1 100 ∷ row 1 8 1 12 ∷ row 1 10 1 12 ∷ row 1 9 1 100 ∷ []));
+    }
+    -- only one order of three passes, however they are listed
+    ∷ record { asked = ordering (tableThree 4 6 8); written = ordered-as accepted (tableThree 4 6 8) }
+    ∷ record { asked = ordering (tableThree 4 8 6); written = ordered-as accepted (tableThree 4 6 8) }
+    ∷ record { asked = ordering (tableThree 6 4 8); written = ordered-as accepted (tableThree 4 6 8) }
+    ∷ record { asked = ordering (tableThree 6 8 4); written = ordered-as accepted (tableThree 4 6 8) }
+    ∷ record { asked = ordering (tableThree 8 4 6); written = ordered-as accepted (tableThree 4 6 8) }
+    ∷ record { asked = ordering (tableThree 8 6 4); written = ordered-as accepted (tableThree 4 6 8) }
+    -- and none where the lowest, the middle or the highest place is one slot short of its figure
+    ∷ record { asked = ordering (tableThree 7 6 4); written = ordered-as (refused (refusal 15)) allZero }
+    ∷ record { asked = ordering (tableThree 8 5 4); written = ordered-as (refused (refusal 15)) allZero }
+    ∷ record { asked = ordering (tableThree 8 6 3); written = ordered-as (refused (refusal 15)) allZero }
+    -- neither its own burst nor its own rate counts against the last-listed: 4/3 + 4 rounded up is 6, and 4/3 + 2 is 4
+    ∷ record { asked = ordering (table 4 2 (row 1 4 1 100 ∷ row 1 4 1 6 ∷ [])); written = ordered-as accepted (table 4 2 (row 1 4 1 100 ∷ row 1 4 1 6 ∷ [])) }
+    ∷ record { asked = ordering (table 4 2 (row 1 4 1 100 ∷ row 2 4 1 4 ∷ [])); written = ordered-as accepted (table 4 2 (row 1 4 1 100 ∷ row 2 4 1 4 ∷ [])) }
+    -- equal requestors: both fit, or neither can stand lowest
+    ∷ record { asked = ordering (table 4 2 (row 1 4 1 6 ∷ row 1 4 1 6 ∷ [])); written = ordered-as accepted (table 4 2 (row 1 4 1 6 ∷ row 1 4 1 6 ∷ [])) }
+    ∷ record { asked = ordering (table 4 2 (row 1 4 1 5 ∷ row 1 4 1 5 ∷ [])); written = ordered-as (refused (refusal 15)) allZero }
+    -- one requestor: its need holds alone, or no order passes
+    ∷ record { asked = ordering (table 4 1 (row 1 4 1 4 ∷ [])); written = ordered-as accepted (table 4 1 (row 1 4 1 4 ∷ [])) }
+    ∷ record { asked = ordering (table 4 1 (row 1 4 1 3 ∷ [])); written = ordered-as (refused (refusal 15)) allZero }
+    -- sixteen, in order already; and with the most urgent listed last, where every place takes the search to the first that remains
+    ∷ record { asked = ordering (tableSixteen withinsRising); written = ordered-as accepted (tableSixteen withinsRising) }
+    ∷ record { asked = ordering (tableSixteen (withinsFalling 256 16)); written = ordered-as accepted (tableSixteen withinsRising) }
+    ∷ record { asked = ordering (tableSixteen (withinsFalling 255 16)); written = ordered-as (refused (refusal 15)) allZero }
+    ∷ record { asked = ordering (tableSixteen (withinsFalling 256 15)); written = ordered-as (refused (refusal 15)) allZero }
+    -- the largest bursts and D: below 15 of them the last takes 4,096 slots, and below 14 of them 3,840
+    ∷ record { asked = ordering (tableWhole (replicate 15 patient ++ greedy 4096 ∷ [])); written = ordered-as accepted (tableWhole (replicate 15 patient ++ greedy 4096 ∷ [])) }
+    ∷ record { asked = ordering (tableWhole (replicate 15 patient ++ greedy 4095 ∷ [])); written = ordered-as accepted (tableWhole (replicate 14 patient ++ greedy 4095 ∷ patient ∷ [])) }
+    -- a listed place is named: 3, 4 and 5 come ahead of 15, and so does 6
+    ∷ record { asked = ordering (table 4 2 (row 1 4 1 3 ∷ row 0 4 1 7 ∷ [])); written = ordered-as (refused (refusalAt 3 1)) allZero }
+    ∷ record { asked = ordering (table 4 2 (row 1 4 1 3 ∷ row 1 3 1 7 ∷ [])); written = ordered-as (refused (refusalAt 4 1)) allZero }
+    ∷ record { asked = ordering (table 4 2 (row 1 4 0 3 ∷ row 1 4 1 3 ∷ [])); written = ordered-as (refused (refusalAt 5 0)) allZero }
+    ∷ record { asked = ordering (table 4 2 (row 3 4 1 1 ∷ row 2 4 1 1 ∷ [])); written = ordered-as (refused (refusal 6)) allZero }
+    -- the same at the other end of each range: a rate above D, and a burst, a j and an L above their limits
+    ∷ record { asked = ordering (table 4 2 (row 1 4 1 3 ∷ row 5 4 1 7 ∷ [])); written = ordered-as (refused (refusalAt 3 1)) allZero }
+    ∷ record { asked = ordering (table 4 2 (row 1 4 1 3 ∷ row 1 16777217 1 7 ∷ [])); written = ordered-as (refused (refusalAt 4 1)) allZero }
+    ∷ record { asked = ordering (table 4 2 (row 1 4 1 3 ∷ row 1 4 256 7 ∷ [])); written = ordered-as (refused (refusalAt 5 1)) allZero }
+    ∷ record { asked = ordering (table 4 2 (row 1 4 1 3 ∷ row 1 4 1 1073741825 ∷ [])); written = ordered-as (refused (refusalAt 5 1)) allZero }
+    -- ahead of all others come 1 and 2, the latter also for a row past the last place
+    ∷ record { asked = ordering (table 0 2 (row 1 4 1 7 ∷ row 1 8 1 4 ∷ [])); written = ordered-as (refused (refusal 1)) allZero }
+    ∷ record { asked = ordering (table 4 0 []); written = ordered-as (refused (refusal 2)) allZero }
+    ∷ record { asked = ordering (table 4 17 (row 1 4 1 7 ∷ [])); written = ordered-as (refused (refusal 2)) allZero }
+    ∷ record { asked = ordering (table 4 1 (row 1 4 1 3 ∷ row 1 8 1 4 ∷ [])); written = ordered-as (refused (refusal 2)) allZero }
+    ∷ record { asked = ordering (table 4 1 (row 0 4 1 3 ∷ row 0 0 0 1 ∷ [])); written = ordered-as (refused (refusal 2)) allZero }
+    ∷ record { asked = ordering (table 0 17 []); written = ordered-as (refused (refusal 1)) allZero }
+    -- a place's 4 is ahead of the next one's 3, and a 5 is ahead of 6
+    ∷ record { asked = ordering (table 4 2 (row 1 3 1 7 ∷ row 0 4 1 7 ∷ [])); written = ordered-as (refused (refusalAt 4 0)) allZero }
+    ∷ record { asked = ordering (table 4 2 (row 3 4 1 1 ∷ row 2 4 0 1 ∷ [])); written = ordered-as (refused (refusalAt 5 1)) allZero }
+    ∷ []
+
+-- T's bytes with the probe listed first, and with this L for it
+unfoldable pub bytesGuessed : (within : ℕ) → List ℕ
+bytesGuessed within = 4 ∷ 2 ∷ 1 ∷ 4 ∷ 1 ∷ within ∷ 1 ∷ 8 ∷ 1 ∷ 4 ∷ []
+
+unfoldable pub searchBytesRows : List Row
+searchBytesRows =
+    -- T's bytes, in order; the buffer's rest stays, and one byte fewer of room is 14
+    record { asked = orderingBytes (bytesGuessed 7) (replicate 12 90); written = written-as (writing.wrote 10) (4 ∷ 2 ∷ 1 ∷ 8 ∷ 1 ∷ 4 ∷ 1 ∷ 4 ∷ 1 ∷ 7 ∷ 90 ∷ 90 ∷ []) }
+    ∷ record { asked = orderingBytes (bytesGuessed 7) (replicate 10 90); written = written-as (writing.wrote 10) (4 ∷ 2 ∷ 1 ∷ 8 ∷ 1 ∷ 4 ∷ 1 ∷ 4 ∷ 1 ∷ 7 ∷ []) }
+    ∷ record { asked = orderingBytes (bytesGuessed 7) (replicate 9 90); written = written-as (writing.refused (refusal 14)) (replicate 9 90) }
+    -- 15 is ahead of 14, 6 of 15, 10 of 6, and a 3 at a listed place of the bytes' end
+    ∷ record { asked = orderingBytes (bytesGuessed 6) (replicate 9 90); written = written-as (writing.refused (refusal 15)) (replicate 9 90) }
+    ∷ record { asked = orderingBytes (4 ∷ 2 ∷ 3 ∷ 4 ∷ 1 ∷ 1 ∷ 2 ∷ 4 ∷ 1 ∷ 1 ∷ []) []; written = written-as (writing.refused (refusal 6)) [] }
+    ∷ record { asked = orderingBytes (4 ∷ 2 ∷ 3 ∷ 4 ∷ 1 ∷ 1 ∷ 2 ∷ 4 ∷ 1 ∷ 1 ∷ 0 ∷ []) []; written = written-as (writing.refused (refusal 10)) [] }
+    ∷ record { asked = orderingBytes (4 ∷ 2 ∷ 1 ∷ 4 ∷ 1 ∷ 7 ∷ 5 ∷ []) []; written = written-as (writing.refused (refusalAt 3 1)) [] }
+    -- D = 300 with rates 100 and 200: numbers of one byte and of two change places. The second has L = 2, and below the first the figure 3
+    ∷ record {
+      asked = orderingBytes (172 ∷ 2 ∷ 2 ∷ 100 ∷ 172 ∷ 2 ∷ 1 ∷ 6 ∷ 200 ∷ 1 ∷ 172 ∷ 2 ∷ 1 ∷ 2 ∷ []) (replicate 14 90);
+      written = written-as (writing.wrote 14) (172 ∷ 2 ∷ 2 ∷ 200 ∷ 1 ∷ 172 ∷ 2 ∷ 1 ∷ 2 ∷ 100 ∷ 172 ∷ 2 ∷ 1 ∷ 6 ∷ []);
+    }
+    -- 1, 2, 4 and 5 are found where the number stands, though bytes are missing behind it
+    ∷ record { asked = orderingBytes (0 ∷ []) []; written = written-as (writing.refused (refusal 1)) [] }
+    ∷ record { asked = orderingBytes (4 ∷ 0 ∷ []) []; written = written-as (writing.refused (refusal 2)) [] }
+    ∷ record { asked = orderingBytes (4 ∷ 2 ∷ 1 ∷ 3 ∷ []) []; written = written-as (writing.refused (refusalAt 4 0)) [] }
+    ∷ record { asked = orderingBytes (4 ∷ 2 ∷ 1 ∷ 4 ∷ 1 ∷ 7 ∷ 1 ∷ 8 ∷ 0 ∷ []) []; written = written-as (writing.refused (refusalAt 5 1)) [] }
+    -- no bytes are 8, and a number in a longer form than it needs is 9
+    ∷ record { asked = orderingBytes [] []; written = written-as (writing.refused (refusal 8)) [] }
+    ∷ record { asked = orderingBytes (132 ∷ 0 ∷ []) []; written = written-as (writing.refused (refusal 9)) [] }
     ∷ []

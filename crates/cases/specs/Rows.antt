@@ -26,6 +26,8 @@ use Rattle.rule.specs.Calls.{Call, post, slot, called}
 use Rattle.rule.specs.Log.{runVerdict, run}
 use Rattle.guarantees.specs.Counts.{slotsIn, grantsTo, stateAfter, heardFrom}
 use Rattle.guarantees.specs.FinishFigure.{formerFinish, formerVerdict}
+use Rattle.ordering.specs.Order.{order}
+use Rattle.ordered_bytes.specs.OrderBytes.{orderBytes}
 use Rattle.replay.specs.Replay.{replay}
 use Rattle.listing.specs.Listing.{listing}
 
@@ -105,6 +107,9 @@ pub data Question : Type 0 where
   -- its finish figure, and what it was before request 1; and what admission found with that
   bothFinishes : Table → (place j : ℕ) → Question
   formerAdmission : Table → Question
+  -- a table put in order; and a table's bytes, the table put in order and written into a lent buffer
+  ordering : Table → Question
+  orderingBytes : (bytes old : List ℕ) → Question
   -- the floor for a place over `inside`, entered after `before` from slot 0
   floor : Table → (before inside : List Call) → (place : ℕ) → Question
   -- what slotlist prints for its input bytes
@@ -139,6 +144,7 @@ pub data Reply : Type 0 where
   told-figures : FiguresAnswer → Reply
   figured : (B R wait finish : ℕ) → Reply
   finished : (finish former : ℕ) → Reply
+  ordered-as : Answer → Table → Reply
   -- the credit on entry, whether the place waits in every slot, R × D × g, and n × (R × L − B)
   floored : (credit : ℕ) (waits : Bool) (granted owed : ℕ) → Reply
 
@@ -192,6 +198,8 @@ reply (figures t p j) =
     figured B R (wait (t .denominator) (requestorsOf t) p) (finish (t .denominator) (requestorsOf t) p j)
 reply (bothFinishes t p j) = finished (finish (t .denominator) (requestorsOf t) p j) (formerFinish (t .denominator) (requestorsOf t) p j)
 reply (formerAdmission t) = found (formerVerdict maxPlaces t)
+reply (ordering t) = let o = order maxPlaces t in ordered-as (o .answer) (o .table)
+reply (orderingBytes given old) = let w = orderBytes maxPlaces given old in written-as (w .answer) (w .buffer)
 reply (floor t before inside p) =
     let s = stateAfter maxPlaces t 0 before in
     let heard = heardFrom maxPlaces s inside in

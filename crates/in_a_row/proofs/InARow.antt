@@ -22,7 +22,8 @@ use Rattle.terms.specs.Start.{noState, start}
 use Rattle.terms.specs.Input.{inputVerdict}
 use Rattle.terms.proofs.Checks.{fair}
 use Rattle.terms.proofs.Sound.{sound-table}
-use Rattle.table_bytes.specs.Reading.{Read, read, stop, next, readAs, numberRead, itemsRead, TableRead, readTable}
+use Rattle.terms.specs.TableResult.{TableResult}
+use Rattle.table_bytes.specs.Reading.{Read, read, stop, next, readAs, numberRead, itemsRead, readTable}
 use Rattle.table_bytes.proofs.Accepted.{stop-read, next-open, read-same}
 use Rattle.reads.specs.Reads.{countsRead, startRead, stateRead, begun}
 use Rattle.listing.specs.Listing.{Step, more, last, played, slotTold, slotStep, step, headed, firstStep, texts, listing}
@@ -91,7 +92,7 @@ step-leaves limit s rest = by-sound (sound limit s) refl where
 
 -- ---- the first step
 
-start-leaves : (limit : ℕ) (r : TableRead) (rest : List ℕ) → follows (headed limit (startRead limit r rest)) ≤ suc (length rest)
+start-leaves : (limit : ℕ) (r : TableResult) (rest : List ℕ) → follows (headed limit (startRead limit r rest)) ≤ suc (length rest)
 unfolding startRead headed
 start-leaves limit r rest = by-table (r .answer) where
   by-start : (a : Answer) (s : State) → follows (headed limit (unless a stop (read s rest))) ≤ suc (length rest)

@@ -4,7 +4,7 @@ use mathlib.Core.Bool.{Bool, true, false, _&&_}
 use mathlib.Core.List.{List, [], _∷_}
 use Prim.Native.Nat.{ℕ}
 use native.Mathlib.Omega.{arith}
-use borrow.Author.Tests.{eqb-true}
+use borrow.Author.Tests.{eqb-true, eq-eqb, ne-eqb}
 use lib.Dec.{eqb}
 use lib.IntN.{ℤ}
 use lib.ListN.{length, set}
@@ -18,11 +18,12 @@ use Rattle.lead_parts.specs.Lead as leads
 use Rattle.table_bytes.specs.Writing as writing
 use Rattle.layout.specs.Words.{roomOf, rightLength, stateOf}
 use Rattle.asking.specs.Look as look
+use Rattle.ordered_bytes.specs.OrderBytes.{orderBytes}
 use Rattle.outcomes.specs.Outcomes.{refusalCode, wrongLength}
 use Rattle.outcomes.specs.Places.{Below}
 use Rattle.outcomes.proofs.Numbering.{below-more}
 use Rattle.outcomes.proofs.Places.{figures-name-below, leads-name-below, write-names-below, looks-name-below, standings-name-below}
-use Rattle.justrave.specs.Exported.{Figured, figuresTold, figured, lookTold, accountTold, stands, standingTold, Led, leadTold, led, Wrote, writeWords, writeCode, writeTold, wrote}
+use Rattle.justrave.specs.Exported.{Figured, figuresTold, figured, lookTold, accountTold, stands, standingTold, Led, leadTold, led, Wrote, writeWords, writeCode, writeTold, wrote, ordered}
 use Rattle.justrave.proofs.Lengths.{lent-room, lent-beside, lent-shut, lent-open}
 
 -- an answer of one number
@@ -140,3 +141,17 @@ module _ (most : ℕ) (words : List ℕ) where
         write-below r h =
             below-more room most (r .place) (lent-room most words (eqb (length old) 1) hold e z)
             (write-names-below room (s .table) buffer r (ap (λ x. x .answer) (sym f) ∙ h) .place)
+
+-- ---- an ordering
+
+module _ (most : ℕ) (bytes buffer old : List ℕ) where
+  pub order-shut : (length old ≡ 1 → ⊥) → _≡_ {A = Wrote} (record { buffer = buffer; answer = old; outcome = wrongLength }) (ordered most bytes buffer old)
+  unfolding ordered
+  order-shut h = rw (ne-eqb (length old) 1 h)
+
+  pub order-told : length old ≡ 1 → (d : writing.TableWritten) → d ≡ orderBytes most bytes buffer → (answer : List ℕ) (o : ℕ) → answer ≡ writeWords old (d .answer) → o ≡ writeCode (d .answer)
+      → _≡_ {A = Wrote} (record { buffer = d .buffer; answer = answer; outcome = o }) (ordered most bytes buffer old)
+  unfolding ordered
+  order-told h d f answer o a b =
+      let told : _≡_ {A = Wrote} (record { buffer = d .buffer; answer = answer; outcome = o }) (writeTold old d) = rw (a, b) in
+      rw (eq-eqb (length old) 1 h) (told ∙ ap (writeTold old) f)

@@ -1,7 +1,8 @@
 -- What each call for firmware does to the memory that is lent to it, and its outcome, one number. The calls are those of document 01 on
--- the state that the words are; how many places the words have room for is the `limit` of each. `most` is the largest N. Words of any
--- length but that of 1 to `most` places, a lent answer or lent numbers of a wrong length are 255, ahead of all else. What is said of
--- memory is said of it at exit; that lent memory does not overlap is the caller's part, in Rattle and Rust by its types.
+-- the state that the words are; how many places the words have room for is the `limit` of each. One of those with an outcome is lent
+-- no state: it puts a table's bytes in order. `most` is the largest N. Words of any length but that of 1 to `most` places, a lent answer or
+-- lent numbers of a wrong length are 255, ahead of all else. What is said of memory is said of it at exit; that lent memory does not overlap
+-- is the caller's part, in Rattle and Rust by its types.
 use mathlib.Core.Bool.{Bool, true, _&&_}
 use mathlib.Core.List.{List, [], _∷_}
 use Prim.Native.Nat.{ℕ, _+_}
@@ -24,6 +25,7 @@ use Rattle.rule.specs.Log.{Outcome, run}
 use Rattle.layout.specs.Words.{wordCount, roomOf, rightLength, stateWords, stateOf}
 use Rattle.layout.specs.Numbers.{numbersTable, rightNumbers}
 use Rattle.starts.specs.Starts.{begun}
+use Rattle.ordered_bytes.specs.OrderBytes.{orderBytes}
 use Rattle.asking.specs.Look as look
 use Rattle.outcomes.specs.Outcomes.{refusalCode, answerCode, wrongLength}
 
@@ -171,3 +173,12 @@ wrote most words buffer old =
     λ limit s. pick (sound limit s)
     (writeTold old (writing.writeTable limit (s .table) buffer))
     (record { buffer = buffer; answer = old; outcome = refusalCode (refusal 23) })
+
+-- ---- the call that puts a table in order: no state is lent
+
+-- the bytes of the table in order, and how many they are; `most` places are room for any table
+unfoldable pub ordered : (most : ℕ) → (bytes buffer old : List ℕ) → Wrote
+ordered most bytes buffer old =
+    pick (eqb (length old) 1)
+    (writeTold old (orderBytes most bytes buffer))
+    (record { buffer = buffer; answer = old; outcome = wrongLength })

@@ -1,7 +1,8 @@
-// For firmware in C or Rust: the calls on a state that is lent as words, with room for 1 place to the largest N. Each works on the
-// caller's words; no state is copied.
+// For firmware in C or Rust: the calls on a state that is lent as words, with room for 1 place to the largest N, each of which works on the
+// caller's words and copies no state; and the call that puts a table's bytes in order.
 
 mod lent;
+pub mod orders;
 pub mod questions;
 pub mod starting;
 pub mod states;

@@ -9,6 +9,11 @@ use lib.Seq.{take-take, take-suc}
 use Rattle.lists.specs.Sums.{total, joined}
 
 module _ {A : Type 0} (f : A → ℕ) where
+  pub total-append : (xs ys : List A) → total f (xs ++ ys) ≡ total f xs + total f ys
+  unfolding total
+  total-append [] ys = omega arith
+  total-append (x ∷ xs) ys = omega (arith, total-append xs ys)
+
   pub total-take-drop : (k : ℕ) (xs : List A) → total f (take k xs) + total f (drop k xs) ≡ total f xs
   unfolding total
   total-take-drop zero xs = omega arith

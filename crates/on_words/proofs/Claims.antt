@@ -23,7 +23,8 @@ use Rattle.terms.specs.Start.{fresh, opening, noState, startVerdict, start, tur
 use Rattle.terms.specs.Asked as asked
 use Rattle.terms.proofs.Checks.{held-open}
 use Rattle.lead_parts.specs.Lead as leads
-use Rattle.table_bytes.specs.Reading.{Read, read, stop, next, fieldRead, rowsRead, placesRead, numbersRead, lastVerdict, TableRead, accept, refuse, settled, readTable}
+use Rattle.terms.specs.TableResult.{TableResult, accept, refuse}
+use Rattle.table_bytes.specs.Reading.{Read, read, stop, next, fieldRead, rowsRead, placesRead, numbersRead, lastVerdict, settled, readTable}
 use Rattle.table_bytes.specs.Writing as writing
 use Rattle.table_bytes.proofs.Accepted.{next-open, read-same, field-open, rows-open}
 use Rattle.rule.specs.declared.rule.Grant.{Grant}
@@ -42,8 +43,8 @@ use Rattle.layout.proofs.TableNumbers.{numbers-read-back}
 use Rattle.starts.specs.Starts.{begun}
 use Rattle.asking.specs.Look as look
 use Rattle.outcomes.specs.Outcomes.{refusalCode, answerCode, wrongLength}
-use Rattle.outcomes.specs.Places.{Told}
-use Rattle.outcomes.proofs.Places.{code-apart, start-names-below, table-start-names-below, calls-name-below, runs-name-below, leads-name-below, figures-name-below, write-names-below, looks-name-below, standings-name-below}
+use Rattle.outcomes.specs.Places.{ofAnyCall, ToldOf}
+use Rattle.outcomes.proofs.Places.{known-told, code-apart, start-names-below, table-start-names-below, calls-name-below, runs-name-below, leads-name-below, figures-name-below, write-names-below, looks-name-below, standings-name-below}
 use Rattle.justrave.specs.Exported.{onState, Stated, posted, slotWords, Slotted, slotted, Ran, ran, leaves, started, startedOf, Figured, figuresTold, figured, lookTold, accountTold, stands, standingTold, leadTold, Led, led, Wrote, writeTold, wrote}
 use Rattle.on_words.specs.Claims.{Fits, Post-by-value, Start-by-value, Starts-agree, Slot-by-value, Run-by-value, Figures-by-value, Account-by-value, Standing-by-value, Lead-by-value, Write-by-value, lentCall, lastTold, In-a-row, Exactly-255, Lengths, Wrong-length, Broken, Broken-words, Start-shaped, Start-of-numbers-shaped, Refused, Clears, Post-refused, Slot-refused, Run-refused, Figures-refused, Account-refused, Standing-refused, Lead-refused, Write-refused, Start-refused, Start-of-numbers-refused}
 
@@ -194,7 +195,7 @@ module _ (room : ℕ) where
   settled-long (stop r) h = length-replicate room noRequestor
   settled-long (read t rest) h = by (lastVerdict t rest)
     where
-      by : (v : Verdict) → length (resolve {X = TableRead} v (accept t) (refuse room) .table .requestors) ≡ room
+      by : (v : Verdict) → length (resolve {X = TableResult} v (accept t) (refuse room) .table .requestors) ≡ room
       by faultless = h t rest refl
       by (fault r) = length-replicate room noRequestor
 
@@ -233,25 +234,41 @@ start-of-numbers-shaped room numbers first = start-of room (numbersTable room nu
 -- ---- what a call comes to
 
 -- it was carried out, or turned down by a refusal of document 01's, and then all stands
-data Ends (room outcome : ℕ) (Stands : Type 0) : Type 0 where
+pub data Ends (room outcome : ℕ) (Stands : Type 0) : Type 0 where
   went : outcome ≡ 0 → Ends room outcome Stands
-  turned : (r : Refusal) → Told room r → outcome ≡ refusalCode r → Stands → Ends room outcome Stands
+  turned : (r : Refusal) → ToldOf ofAnyCall room r → outcome ≡ refusalCode r → Stands → Ends room outcome Stands
 
 module _ {room outcome : ℕ} {Stands : Type 0} where
-  all-stands : Ends room outcome Stands → Refused outcome → Stands
+  pub all-stands : Ends room outcome Stands → Refused outcome → Stands
   all-stands (went e) h = absurd (h e)
   all-stands (turned r t e s) h = s
 
-  never-255 : Ends room outcome Stands → outcome ≡ wrongLength → ⊥
+  pub never-255 : Ends room outcome Stands → outcome ≡ wrongLength → ⊥
   never-255 (went e) f = omega arith
   never-255 (turned r t e s) f = code-apart room r t .1 (sym e ∙ f)
+
+-- a table's bytes, written
+pub written-ends : (room : ℕ) (t : Table) (buffer old : List ℕ)
+    → let d = writeTold old (writing.writeTable room t buffer) in Ends room (d .outcome) ((d .buffer ≡ buffer) × (d .answer ≡ old))
+unfolding writing.writeTable
+written-ends room t buffer old = by (writing.writeVerdict room t (length buffer)) (λ r e. known-told (write-names-below room t buffer r e))
+  where
+    made : Verdict → writing.TableWritten
+    made v =
+        resolve v (record { answer = writing.wrote (length (writing.tableBytes t)); buffer = writtenOver (writing.tableBytes t) buffer })
+        (λ r. record { answer = writing.refused r; buffer = buffer })
+
+    by : (v : Verdict) → ((r : Refusal) → made v .answer ≡ writing.refused r → ToldOf ofAnyCall room r)
+        → let d = writeTold old (made v) in Ends room (d .outcome) ((d .buffer ≡ buffer) × (d .answer ≡ old))
+    by faultless names = went refl
+    by (fault r) names = turned r (names r refl) refl (refl, refl)
 
 module _ (room : ℕ) (s : State) where
   -- a slot's answer is written nowhere where the slot was refused
   abbrev Stands : Result State Answer → Type 0
   Stands r = (r .state ≡ s) × ((old : List ℕ) → slotWords old (r .answer) ≡ old)
 
-  outcome-ends : (v : Verdict) (c : Call) → ((r : Refusal) → outcome v s c .answer ≡ refused r → Told room r)
+  outcome-ends : (v : Verdict) (c : Call) → ((r : Refusal) → outcome v s c .answer ≡ refused r → ToldOf ofAnyCall room r)
       → Ends room (answerCode (outcome v s c .answer)) (Stands (outcome v s c))
   unfolding done
   outcome-ends faultless (post p count) t = went refl
@@ -264,47 +281,47 @@ module _ (room : ℕ) (s : State) where
 
   call-ends : (c : Call) → Ends room (answerCode (called room s c .answer)) (Stands (called room s c))
   unfolding called
-  call-ends c = outcome-ends (gate (refusal 23) (sound room s) (ruleVerdict s c)) c (calls-name-below room s c)
+  call-ends c = outcome-ends (gate (refusal 23) (sound room s) (ruleVerdict s c)) c (λ r e. known-told (calls-name-below room s c r e))
 
   run-ends : (log : List ℕ) → Ends room (answerCode (run room s log .answer)) ((run room s log .state ≡ s) × (run room s log .log ≡ log))
   unfolding run
-  run-ends log = by (runVerdict room s (length log)) (runs-name-below room s log)
+  run-ends log = by (runVerdict room s (length log)) (λ r e. known-told (runs-name-below room s log r e))
     where
       made : Verdict → Outcome
       made v =
           resolve v (record { state = slotsState (length log) s; answer = accepted; log = slotsLog (length log) s })
           (λ r. record { state = s; answer = refused r; log = log })
 
-      by : (v : Verdict) → ((r : Refusal) → made v .answer ≡ refused r → Told room r)
+      by : (v : Verdict) → ((r : Refusal) → made v .answer ≡ refused r → ToldOf ofAnyCall room r)
           → Ends room (answerCode (made v .answer)) ((made v .state ≡ s) × (made v .log ≡ log))
       by faultless t = went refl
       by (fault r) t = turned r (t r refl) refl (refl, refl)
 
   figures-ends : (p j : ℕ) (old : List ℕ) → let d = figuresTold old (asked.figures room s p j) in Ends room (d .outcome) (d .answer ≡ old)
-  figures-ends p j old = by (asked.figures room s p j) (figures-name-below room s p j)
+  figures-ends p j old = by (asked.figures room s p j) (λ r e. known-told (figures-name-below room s p j r e))
     where
-      by : (a : asked.FiguresAnswer) → ((r : Refusal) → a ≡ asked.refused r → Told room r) → Ends room (figuresTold old a .outcome) (figuresTold old a .answer ≡ old)
+      by : (a : asked.FiguresAnswer) → ((r : Refusal) → a ≡ asked.refused r → ToldOf ofAnyCall room r) → Ends room (figuresTold old a .outcome) (figuresTold old a .answer ≡ old)
       by (asked.figured wait finish) t = went refl
       by (asked.refused r) t = turned r (t r refl) refl refl
 
   account-ends : (p : ℕ) (old : List ℕ) → let d = lookTold old (look.accountAsked room s p) in Ends room (d .outcome) (d .answer ≡ old)
-  account-ends p old = by (look.accountAsked room s p) (looks-name-below room s p)
+  account-ends p old = by (look.accountAsked room s p) (λ r e. known-told (looks-name-below room s p r e))
     where
-      by : (a : look.Told Account) → ((r : Refusal) → a ≡ look.refused r → Told room r) → Ends room (lookTold old a .outcome) (lookTold old a .answer ≡ old)
+      by : (a : look.Told Account) → ((r : Refusal) → a ≡ look.refused r → ToldOf ofAnyCall room r) → Ends room (lookTold old a .outcome) (lookTold old a .answer ≡ old)
       by (look.told x) t = went refl
       by (look.refused r) t = turned r (t r refl) refl refl
 
   standing-ends : (old : List ℕ) → let d = stands old (look.standing room s) in Ends room (d .outcome) (d .answer ≡ old)
-  standing-ends old = by (look.standing room s) (standings-name-below room s)
+  standing-ends old = by (look.standing room s) (λ r e. known-told (standings-name-below room s r e))
     where
-      by : (a : look.Told look.Standing) → ((r : Refusal) → a ≡ look.refused r → Told room r) → Ends room (stands old a .outcome) (stands old a .answer ≡ old)
+      by : (a : look.Told look.Standing) → ((r : Refusal) → a ≡ look.refused r → ToldOf ofAnyCall room r) → Ends room (stands old a .outcome) (stands old a .answer ≡ old)
       by (look.told x) t = went refl
       by (look.refused r) t = turned r (t r refl) refl refl
 
   lead-ends : (p : ℕ) (log : List ℕ) (old : List ℤ) → let d = leadTold old (leads.leadAsked room s p log) in Ends room (d .outcome) (d .answer ≡ old)
-  lead-ends p log old = by (leads.leadAsked room s p log) (leads-name-below room s p log)
+  lead-ends p log old = by (leads.leadAsked room s p log) (λ r e. known-told (leads-name-below room s p log r e))
     where
-      by : (a : leads.LeadAnswer) → ((r : Refusal) → a ≡ leads.refused r → Told room r) → Ends room (leadTold old a .outcome) (leadTold old a .answer ≡ old)
+      by : (a : leads.LeadAnswer) → ((r : Refusal) → a ≡ leads.refused r → ToldOf ofAnyCall room r) → Ends room (leadTold old a .outcome) (leadTold old a .answer ≡ old)
       by (leads.lead x) t = went refl
       by (leads.refused r) t = turned r (t r refl) refl refl
 
@@ -314,21 +331,10 @@ module _ (room : ℕ) (s : State) where
       (record { buffer = buffer; answer = old; outcome = refusalCode (refusal 23) })
 
   write-ends : (buffer old : List ℕ) → let d = writing-call buffer old in Ends room (d .outcome) ((d .buffer ≡ buffer) × (d .answer ≡ old))
-  unfolding writing.writeTable
   write-ends buffer old =
       cases (sound room s)
-      (λ q. rw q (by (writing.writeVerdict room (s .table) (length buffer)) (write-names-below room (s .table) buffer)))
+      (λ q. rw q (written-ends room (s .table) buffer old))
       (λ q. rw q (turned (refusal 23) (record { number = refl; names = refl; origin = refl; place = tt }) refl (refl, refl)))
-    where
-      made : Verdict → writing.TableWritten
-      made v =
-          resolve v (record { answer = writing.wrote (length (writing.tableBytes (s .table))); buffer = writtenOver (writing.tableBytes (s .table)) buffer })
-          (λ r. record { answer = writing.refused r; buffer = buffer })
-
-      by : (v : Verdict) → ((r : Refusal) → made v .answer ≡ writing.refused r → Told room r)
-          → let d = writeTold old (made v) in Ends room (d .outcome) ((d .buffer ≡ buffer) × (d .answer ≡ old))
-      by faultless t = went refl
-      by (fault r) t = turned r (t r refl) refl (refl, refl)
 
 -- ---- what was not carried out
 
@@ -408,24 +414,24 @@ write-refused most words buffer old =
 
 start-ends : (room : ℕ) (t : Table) (first : ℕ) → Ends room (answerCode (start room t first .answer)) (start room t first .state ≡ noState room)
 unfolding start
-start-ends room t first = by (startVerdict room t first) (table-start-names-below room t first)
+start-ends room t first = by (startVerdict room t first) (λ r e. known-told (table-start-names-below room t first r e))
   where
     made : Verdict → Result State Answer
     made v = resolve v (record { state = opening t first; answer = accepted }) (turnedDown room)
 
-    by : (v : Verdict) → ((r : Refusal) → made v .answer ≡ refused r → Told room r) → Ends room (answerCode (made v .answer)) (made v .state ≡ noState room)
+    by : (v : Verdict) → ((r : Refusal) → made v .answer ≡ refused r → ToldOf ofAnyCall room r) → Ends room (answerCode (made v .answer)) (made v .state ≡ noState room)
     by faultless t = went refl
     by (fault r) t = turned r (t r refl) refl refl
 
 begun-ends : (room : ℕ) (bytes : List ℕ) (first : ℕ)
     → let d = begun room (readTable room bytes) first in Ends room (answerCode (d .answer)) (d .state ≡ noState room)
 unfolding begun
-begun-ends room bytes first = by (readTable room bytes .answer) (start-names-below room bytes first)
+begun-ends room bytes first = by (readTable room bytes .answer) (λ r e. known-told (start-names-below room bytes first r e))
   where
     goes-on : Result State Answer
     goes-on = start room (readTable room bytes .table) first
 
-    by : (a : Answer) → ((r : Refusal) → unless a (turnedDown room) goes-on .answer ≡ refused r → Told room r)
+    by : (a : Answer) → ((r : Refusal) → unless a (turnedDown room) goes-on .answer ≡ refused r → ToldOf ofAnyCall room r)
         → Ends room (answerCode (unless a (turnedDown room) goes-on .answer)) (unless a (turnedDown room) goes-on .state ≡ noState room)
     by accepted t = start-ends room (readTable room bytes .table) first
     by (granted stamp p) t = start-ends room (readTable room bytes .table) first

@@ -2,6 +2,7 @@
 pub mod Claims
 pub mod Begins
 pub mod Installed
+pub mod Ordered
 pub mod Longer
 pub mod LongerStart
 pub mod Room

@@ -115,6 +115,10 @@ module _ (room extra : ℕ) (t : Table) (rows : length (t .requestors) ≡ room)
     le-leb (t .count) room few,
   )
 
+  pub same-admission : admissionVerdict (room + extra) (longerTable extra t) ≡ admissionVerdict room t
+  unfolding admissionVerdict
+  same-admission = rw (same-table, same-rows)
+
 -- a table whose N is above its room has with more room a row of zeros among its places
 row-of-zeros : (room extra : ℕ) (t : Table) → length (t .requestors) ≡ room → room < t .count → Fair (room + extra) (longerTable extra t) → ⊥
 row-of-zeros room extra t rows over f =
@@ -286,5 +290,5 @@ module _ (room extra : ℕ) (s : State) (v : Shaped room s) where
   same-lead p log = rw (same-place room extra s v p, getD-clear noRequestor (s .table .requestors) extra p)
 
   pub same-write : (buffer : List ℕ) → s .table .count ≤ room → writeTable (room + extra) (big .table) buffer ≡ writeTable room (s .table) buffer
-  unfolding writeTable writeVerdict admissionVerdict tableBytes tableNumbers
-  same-write buffer few = rw (same-table room extra (s .table) (v .rows) few, same-rows room extra (s .table) (v .rows) few)
+  unfolding writeTable writeVerdict tableBytes tableNumbers
+  same-write buffer few = rw (same-admission room extra (s .table) (v .rows) few, same-rows room extra (s .table) (v .rows) few)

@@ -25,14 +25,15 @@ use Rattle.terms.specs.Answers.{Answer, accepted, granted, idle, refused, unles
 use Rattle.terms.specs.Figures.{admissionVerdict}
 use Rattle.terms.specs.Start.{fresh, opening, noState, startVerdict, start, turnedDown}
 use Rattle.terms.proofs.Checks.{held-open}
-use Rattle.table_bytes.specs.Reading.{Read, read, stop, next, numberRead, fieldRead, rowsRead, placesRead, numbersRead, lastVerdict, TableRead, accept, refuse, settled, readTable}
+use Rattle.terms.specs.TableResult.{TableResult, accept, refuse}
+use Rattle.table_bytes.specs.Reading.{Read, read, stop, next, numberRead, fieldRead, rowsRead, placesRead, numbersRead, lastVerdict, settled, readTable}
 use Rattle.table_bytes.proofs.Accepted.{field-open, rows-open}
 use Rattle.layout.specs.Numbers.{numberCount, rightNumbers, allNumbers, numbersTable}
 use Rattle.layout.proofs.TableNumbers.{numbers-read-back, table-written-back}
 use Rattle.starts.specs.Starts.{begun}
 use Rattle.on_words.specs.Room.{moreNumbers}
 use Rattle.on_words.proofs.Claims.{read-long, numbers-rows}
-use Rattle.on_words.proofs.Longer.{longerTable, longer, same-rows, same-table}
+use Rattle.on_words.proofs.Longer.{longerTable, longer, same-rows, same-admission}
 
 -- ---- a start
 
@@ -70,9 +71,9 @@ module _ (room extra : ℕ) where
     above over h = let two = count-above room (t .count) over in rw two (two-above (heldTo denominatorBounds (t .denominator)) _ _ _ _ _ (rw two at h))
 
     same-start-verdict : (startVerdict room t first ≡ fault (refusal 2) → ⊥) → startVerdict (room + extra) (longerTable extra t) first ≡ startVerdict room t first
-    unfolding startVerdict admissionVerdict
+    unfolding startVerdict
     same-start-verdict h = cases (leb (t .count) room)
-        (λ q. let few = leb-true (t .count) room q in rw (same-table room extra t rows few, same-rows room extra t rows few))
+        (λ q. rw (same-admission room extra t rows (leb-true (t .count) room q)))
         (λ q. above (leb-false (t .count) room q) h)
 
     pub same-start : (start room t first .answer ≡ refused (refusal 2) → ⊥) → start (room + extra) (longerTable extra t) first ≡ made-longer (start room t first)
@@ -85,7 +86,7 @@ module _ (room extra : ℕ) where
 -- ---- a table's bytes
 
 module _ (room extra : ℕ) where
-  abbrev read-longer : TableRead → TableRead
+  abbrev read-longer : TableResult → TableResult
   read-longer r = record { table = longerTable extra (r .table); answer = r .answer }
 
   refuse-longer : (r : Refusal) → refuse (room + extra) r ≡ read-longer (refuse room r)
@@ -98,7 +99,7 @@ module _ (room extra : ℕ) where
 
   -- a table of rows that were read
   module _ (d n : ℕ) (rows : List Requestor) (few : length rows ≤ room) where
-    table-longer : tableOf (room + extra) d n rows ≡ longerTable extra (tableOf room d n rows)
+    pub table-longer : tableOf (room + extra) d n rows ≡ longerTable extra (tableOf room d n rows)
     unfolding tableOf writtenOver
     table-longer =
         let clear = replicate room noRequestor in

@@ -1,7 +1,9 @@
 -- Every row passes: the definitions compute to what is written. One list after the other, since the check counts the steps of each
 -- proof and the words grow with the largest N. Assumes nothing.
 use mathlib.Core.Path.{refl}
+use mathlib.Core.Option.{bind}
 use Rattle.lists.specs.Sums.{total, joined, every, upTo}
+use Rattle.lists.specs.Orders.{without}
 use Rattle.lists.specs.Pairs.{paired}
 use Rattle.lists.specs.Overwriting.{writtenOver}
 use Rattle.groups.specs.Groups.{lastGroup, combined, laterGroups, numberOf, groupsOf, numberBytes}
@@ -22,9 +24,11 @@ use Rattle.layout.specs.Words.{roomOf, rightLength, stateWords, placesFrom, wor
 use Rattle.layout.specs.Numbers.{numbersTable}
 use Rattle.starts.specs.Starts.{begun}
 use Rattle.asking.specs.Look.{accountAsked, standing}
+use Rattle.ordering.specs.Order.{needHolds, lastHolding, filledUp}
+use Rattle.ordered_bytes.specs.OrderBytes.{listedVerdict, orderRead, orderBytes}
 use Rattle.outcomes.specs.Outcomes.{refusalCode}
-use Rattle.justrave.specs.Exported.{onState, posted, slotted, ran, leaves, started, startedOf, figured, accountTold, standingTold, led, wrote}
-use Rattle.on_words.specs.Rows.{wordsIn, startRows, numberRows, postRows, slotRows, runRows, askedRows, writeRows, lookRows, roomRows, lengthRows, Pass, All-pass}
+use Rattle.justrave.specs.Exported.{onState, posted, slotted, ran, leaves, started, startedOf, figured, accountTold, standingTold, led, wrote, ordered}
+use Rattle.on_words.specs.Rows.{wordsIn, startRows, numberRows, postRows, slotRows, runRows, askedRows, writeRows, lookRows, roomRows, orderRows, lengthRows, Pass, All-pass}
 
 start-pass : Pass startRows
 unfolding roomOf rightLength placesFrom wordsState stateWords joined paired refusalCode wordsIn total every gate then heldTo rowVerdict eachPlace tailVerdict rateSumVerdict tableVerdict roundedUp finish finishVerdict admissionVerdict tableOf writtenOver opening noState startVerdict start leaves lastGroup combined laterGroups numberOf next fieldRead rowRead itemsRead placesRead numbersRead lastVerdict settled readTable begun started startRows
@@ -62,9 +66,13 @@ room-pass : Pass roomRows
 unfolding roomOf rightLength placesFrom wordsState stateWords joined paired refusalCode wordsIn total every gate then heldTo rowVerdict eachPlace tailVerdict rateSumVerdict tableVerdict roundedUp finish finishVerdict admissionVerdict tableOf writtenOver opening noState startVerdict start leaves lastGroup combined laterGroups numberOf next fieldRead rowRead itemsRead placesRead numbersRead lastVerdict settled readTable begun started numbersTable startedOf upTo accountsHold sound eligible later firstEligible served passed after grantOf advanced withCount withPost done ruleVerdict called inputVerdict slotsState slotsLog slotsVerdict runVerdict run placeVerdict figuresVerdict figures accountAsked standing onState posted slotted ran figured accountTold standingTold roomRows
 room-pass = refl
 
+order-pass : Pass orderRows
+unfolding joined refusalCode total every gate then heldTo rowVerdict eachPlace tailVerdict rateSumVerdict tableVerdict roundedUp finish finishVerdict admissionVerdict tableOf writtenOver groupsOf numberBytes tableNumbers tableBytes writeVerdict writeTable lastGroup combined laterGroups numberOf next fieldRead rowRead itemsRead placesRead numbersRead bind without needHolds lastHolding filledUp listedVerdict orderRead orderBytes ordered orderRows
+order-pass = refl
+
 length-pass : Pass lengthRows
 unfolding roomOf rightLength placesFrom wordsState stateWords joined paired refusalCode wordsIn total every gate then heldTo rowVerdict eachPlace tailVerdict rateSumVerdict tableVerdict upTo accountsHold sound done ruleVerdict called onState posted lengthRows
 length-pass = refl
 
 pub all-pass : All-pass
-all-pass = (start-pass, number-pass, post-pass, slot-pass, run-pass, asked-pass, write-pass, look-pass, room-pass, length-pass, refl)
+all-pass = (start-pass, number-pass, post-pass, slot-pass, run-pass, asked-pass, write-pass, look-pass, room-pass, order-pass, length-pass, refl)

@@ -4,21 +4,20 @@ use mathlib.Core.Path.{_≡_}
 use mathlib.Core.Bool.{true}
 use mathlib.Core.List.{List}
 use Prim.Native.Nat.{ℕ, _≤_}
-use lib.Dec.{eqb}
-use lib.ListN.{length}
 use Rattle.terms.specs.Table.{Table, rateSumVerdict}
 use Rattle.terms.specs.Limits.{maxSlot}
-use Rattle.terms.specs.Refusals.{Verdict, faultless, refusal, gate, then}
+use Rattle.terms.specs.Refusals.{Verdict, faultless, then}
 use Rattle.layout.specs.Words.{roomOf, rightLength}
 use Rattle.layout.specs.Numbers.{rightNumbers, numbersTable}
-use Rattle.table_bytes.specs.Reading.{read, numbersRead, accept, readTable}
+use Rattle.terms.specs.TableResult.{accept}
+use Rattle.table_bytes.specs.Reading.{read, leftVerdict, numbersRead, readTable}
 use Rattle.guarantees.specs.FinishFigure.{formerFinishesVerdict, formerVerdict}
 use Rattle.justrave.specs.Exported.{started, startedOf}
 use Rattle.on_words.specs.Begins.{Begins}
 
 -- what such a unit tested once the numbers were read: 10, 6, and 7 by the former figure
 unfoldable pub formerLast : Table → (rest : List ℕ) → Verdict
-formerLast t rest = then (gate (refusal 10) (eqb (length rest) 0) faultless) (then (rateSumVerdict t) (formerFinishesVerdict t))
+formerLast t rest = then (leftVerdict rest) (then (rateSumVerdict t) (formerFinishesVerdict t))
 
 -- bytes that it read as the table t
 pub record FormerlyRead (limit : ℕ) (bytes : List ℕ) (t : Table) : Type 0 where

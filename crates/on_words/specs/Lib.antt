@@ -1,7 +1,8 @@
 -- What holds of the calls on lent words together, that a start with outcome 0 is one of demand 3, that an installed basin still starts,
--- that room makes no difference, and worked examples of each.
+-- that bytes put in order start, that room makes no difference, and worked examples of each.
 pub mod Claims
 pub mod Begins
 pub mod Installed
+pub mod Ordered
 pub mod Room
 pub mod Rows

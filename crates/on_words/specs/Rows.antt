@@ -8,7 +8,7 @@ use lib.IntN.{ℤ, pos, negsuc}
 use lib.ListN.{replicate}
 use Rattle.terms.specs.Limits.{maxPlaces, maxSlot}
 use Rattle.layout.specs.Words.{wordCount}
-use Rattle.justrave.specs.Exported.{sizeOf, Stated, started, startedOf, posted, Slotted, slotted, Ran, ran, Figured, figured, accountTold, standingTold, Led, led, Wrote, wrote}
+use Rattle.justrave.specs.Exported.{sizeOf, Stated, started, startedOf, posted, Slotted, slotted, Ran, ran, Figured, figured, accountTold, standingTold, Led, led, Wrote, wrote, ordered}
 
 -- ---- words
 
@@ -133,6 +133,12 @@ leading words p log old answer o = record {
 abbrev pub writing : (words buffer old : List ℕ) → (after answer : List ℕ) (outcome : ℕ) → Row
 writing words buffer old after answer o = record {
   asked = wrote-as (wrote maxPlaces words buffer old);
+  written = wrote-as (record { buffer = after; answer = answer; outcome = o });
+}
+
+abbrev pub ordering : (bytes buffer old : List ℕ) → (after answer : List ℕ) (outcome : ℕ) → Row
+ordering bytes buffer old after answer o = record {
+  asked = wrote-as (ordered maxPlaces bytes buffer old);
   written = wrote-as (record { buffer = after; answer = answer; outcome = o });
 }
 
@@ -282,6 +288,27 @@ roomRows =
     ∷ posting (wordsIn 2 1 0 8 3 4 0 ++ 0 ∷ 0 ∷ 0 ∷ 0 ∷ 0 ∷ 1 ∷ []) 0 1 (wordsIn 2 1 0 8 3 4 0 ++ 0 ∷ 0 ∷ 0 ∷ 0 ∷ 0 ∷ 1 ∷ []) 23
     ∷ []
 
+-- T's bytes with the probe listed first, and this L for it
+abbrev pub bytesGuessed : (within : ℕ) → List ℕ
+bytesGuessed within = 4 ∷ 2 ∷ 1 ∷ 4 ∷ 1 ∷ within ∷ 1 ∷ 8 ∷ 1 ∷ 4 ∷ []
+
+unfoldable pub orderRows : List Row
+orderRows =
+    -- T's bytes, either way round, come out in T's order, and the answer is how many; what stands behind them stays
+    ordering (bytesT 7) (unused 10) (91 ∷ []) (bytesT 7) (10 ∷ []) 0
+    ∷ ordering (bytesGuessed 7) (unused 11) (91 ∷ []) (bytesT 7 ++ 90 ∷ []) (10 ∷ []) 0
+    -- one byte of room too few is 14; no order passes is 15, ahead of it; nothing is written
+    ∷ ordering (bytesGuessed 7) (unused 9) (91 ∷ []) (unused 9) (91 ∷ []) 14
+    ∷ ordering (bytesGuessed 6) (unused 9) (91 ∷ []) (unused 9) (91 ∷ []) 15
+    -- a rate of 0 at listed place 1 is 3 + 256 × 2, where the bytes end behind it; no bytes are 8
+    ∷ ordering (4 ∷ 2 ∷ 1 ∷ 4 ∷ 1 ∷ 7 ∷ 0 ∷ []) (unused 9) (91 ∷ []) (unused 9) (91 ∷ []) 515
+    ∷ ordering [] [] (91 ∷ []) [] (91 ∷ []) 8
+    -- an answer of no word or of two is 255, ahead of all else
+    ∷ ordering (bytesGuessed 7) (unused 10) [] (unused 10) [] 255
+    ∷ ordering [] (unused 10) (91 ∷ 92 ∷ []) (unused 10) (91 ∷ 92 ∷ []) 255
+    ∷ ordering [] [] [] [] [] 255
+    ∷ []
+
 -- as many words: 9 are room for one place and 99 for 16; no other of these is a state's length
 unfoldable pub lengthRows : List Row
 lengthRows =
@@ -302,4 +329,4 @@ abbrev pub Pass : List Row → Type 0
 Pass rows = map (λ r. r .asked) rows ≡ map (λ r. r .written) rows
 
 abbrev pub All-pass : Type 0
-All-pass = Pass startRows × Pass numberRows × Pass postRows × Pass slotRows × Pass runRows × Pass askedRows × Pass writeRows × Pass lookRows × Pass roomRows × Pass lengthRows × Sizes
+All-pass = Pass startRows × Pass numberRows × Pass postRows × Pass slotRows × Pass runRows × Pass askedRows × Pass writeRows × Pass lookRows × Pass roomRows × Pass orderRows × Pass lengthRows × Sizes

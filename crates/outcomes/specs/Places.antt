@@ -1,5 +1,5 @@
--- A refusal of any call has one of document 01's numbers, the cause that goes with it, and a place exactly where it is 3, 4, 5 or 7: one that
--- there is room for. So an outcome tells the refusal; 0 is no refusal, and 255 is none of document 01's.
+-- A refusal of any call has one of the papers' numbers, the cause that goes with it, and a place exactly where it is 3, 4, 5 or 7: one that
+-- there is room for. So an outcome tells the refusal; 0 is no refusal, and 255 is none of theirs. An ordering has numbers of its own.
 use mathlib.Core.Path.{_≡_}
 use mathlib.Core.Bool.{Bool, true, false}
 use lib.Dec.{eqb}
@@ -21,6 +21,7 @@ use Rattle.table_bytes.specs.Writing as writing
 use Rattle.rule.specs.Calls.{Call, called}
 use Rattle.rule.specs.Log.{run}
 use Rattle.starts.specs.Starts.{begun}
+use Rattle.ordered_bytes.specs.OrderBytes.{orderBytes}
 use Rattle.asking.specs.Look as look
 use Rattle.outcomes.specs.Outcomes.{refusalCode, wrongLength}
 
@@ -28,9 +29,17 @@ abbrev pub Below : ℕ → Named → Type 0
 Below limit named.Nowhere = Unit {0}
 Below limit (named.Place p) = p < limit
 
--- the numbers of refusals: 1 to 14 and 21 to 23
+-- the numbers of a start's refusals and of those of a call on a state: 1 to 14 and 21 to 23
 abbrev pub known : ℕ → Bool
 known n = pick (inRange 1 14 n) true (inRange 21 23 n)
+
+-- of an ordering's: 1 to 6, 8 to 10, 14 and 15; never 7, and none that a state causes
+abbrev pub ofAnOrder : ℕ → Bool
+ofAnOrder n = pick (inRange 1 6 n) true (pick (inRange 8 10 n) true (inRange 14 15 n))
+
+-- of any call's
+abbrev pub ofAnyCall : ℕ → Bool
+ofAnyCall n = pick (known n) true (ofAnOrder n)
 
 -- those that name a place
 abbrev pub placed : ℕ → Bool
@@ -40,18 +49,22 @@ abbrev pub namesPlace : Named → Bool
 namesPlace named.Nowhere = false
 namesPlace (named.Place p) = true
 
-pub record Told (limit : ℕ) (r : Refusal) : Type 0 where
-  pub number : known (r .number) ≡ true
+-- a refusal with one of these numbers
+pub record ToldOf (numbers : ℕ → Bool) (limit : ℕ) (r : Refusal) : Type 0 where
+  pub number : numbers (r .number) ≡ true
   pub names : namesPlace (r .place) ≡ placed (r .number)
   pub origin : r .origin ≡ originOf (r .number)
   pub place : Below limit (r .place)
 
+abbrev pub Told : ℕ → Refusal → Type 0
+Told limit r = ToldOf known limit r
+
 -- two refusals with one outcome are one refusal, and it is neither 0 nor 255
 abbrev pub Code-tells : Type 0
-Code-tells = (limit : ℕ) (r q : Refusal) → Told limit r → Told limit q → refusalCode r ≡ refusalCode q → r ≡ q
+Code-tells = (limit : ℕ) (r q : Refusal) → ToldOf ofAnyCall limit r → ToldOf ofAnyCall limit q → refusalCode r ≡ refusalCode q → r ≡ q
 
 abbrev pub Code-apart : Type 0
-Code-apart = (limit : ℕ) (r : Refusal) → Told limit r → (refusalCode r ≡ 0 → ⊥) × (refusalCode r ≡ wrongLength → ⊥)
+Code-apart = (limit : ℕ) (r : Refusal) → ToldOf ofAnyCall limit r → (refusalCode r ≡ 0 → ⊥) × (refusalCode r ≡ wrongLength → ⊥)
 
 abbrev pub Start-names-below : Type 0
 Start-names-below =
@@ -78,6 +91,9 @@ Figures-name-below = (limit : ℕ) (s : State) (p j : ℕ) (r : Refusal) → ask
 abbrev pub Write-names-below : Type 0
 Write-names-below =
     (limit : ℕ) (t : Table) (buffer : List ℕ) (r : Refusal) → writing.writeTable limit t buffer .answer ≡ writing.refused r → Told limit r
+
+abbrev pub Orders-name-below : Type 0
+Orders-name-below = (limit : ℕ) (bytes buffer : List ℕ) (r : Refusal) → orderBytes limit bytes buffer .answer ≡ writing.refused r → ToldOf ofAnOrder limit r
 
 abbrev pub Looks-name-below : Type 0
 Looks-name-below = (limit : ℕ) (s : State) (p : ℕ) (r : Refusal) → look.accountAsked limit s p ≡ look.refused r → Told limit r

@@ -13,14 +13,15 @@ use Rattle.terms.specs.State.{State}
 use Rattle.terms.specs.Refusals.{faultless, fault, refusal}
 use Rattle.terms.specs.Answers.{Answer, accepted, granted, idle, refused, unless}
 use Rattle.terms.specs.Input.{inputVerdict}
-use Rattle.table_bytes.specs.Reading.{Read, read, stop, next, numberRead, TableRead, readTable}
+use Rattle.terms.specs.TableResult.{TableResult}
+use Rattle.table_bytes.specs.Reading.{Read, read, stop, next, numberRead, readTable}
 use Rattle.starts.specs.Starts as starts
 use Rattle.reads.specs.Reads.{startRead, stateRead, begun}
 
 -- ---- the start
 
 -- what a start from the table's bytes comes to
-pub start-told : (limit : ℕ) (t : TableRead) (rest : List ℕ) (begins : Result State Answer) → begins ≡ starts.begun limit t 0
+pub start-told : (limit : ℕ) (t : TableResult) (rest : List ℕ) (begins : Result State Answer) → begins ≡ starts.begun limit t 0
     → unless (begins .answer) stop (read (begins .state) rest) ≡ startRead limit t rest
 unfolding starts.begun startRead
 start-told limit t rest begins e = by (t .answer) refl where

@@ -11,12 +11,13 @@ use Rattle.terms.specs.Refusals.{refusal, resolve}
 use Rattle.terms.specs.Answers.{unless}
 use Rattle.terms.specs.Start.{start}
 use Rattle.terms.specs.Input.{inputVerdict}
-use Rattle.table_bytes.specs.Reading.{Read, read, stop, next, numberRead, itemsRead, TableRead, readTable}
+use Rattle.terms.specs.TableResult.{TableResult}
+use Rattle.table_bytes.specs.Reading.{Read, read, stop, next, numberRead, itemsRead, readTable}
 
 -- ---- the beginning
 
 -- the table starts at slot 0, or is refused
-unfoldable pub startRead : ℕ → TableRead → (rest : List ℕ) → Read State
+unfoldable pub startRead : ℕ → TableResult → (rest : List ℕ) → Read State
 startRead limit r rest =
     unless (r .answer) stop
     (let started = start limit (r .table) 0 in

@@ -1,28 +1,27 @@
 -- Bytes written from an accepted table read back as it; accepted bytes written again are the same bytes. Assumes nothing.
-use mathlib.Core.Path.{_≡_, refl, ap, ap₂, sym, _∙_}
-use mathlib.Core.Bool.{true}
+use mathlib.Core.Path.{_≡_, refl, ap, sym, _∙_}
 use mathlib.Core.List.{List, [], _∷_, _++_, append-nil, append-assoc}
-use Prim.Native.Nat.{ℕ, zero, suc, _≤_}
+use Prim.Native.Nat.{ℕ, suc, _≤_}
 use native.Mathlib.Omega.{arith}
-use borrow.Author.Tests.{le-leb, eqb-true}
-use lib.ListN.{length, take, drop, replicate, take-append-drop}
+use borrow.Author.Tests.{le-leb}
+use lib.ListN.{length, take, drop}
 use lib.Seq.{drop-append-seam, take-at, length-take-le}
-use Rattle.lists.specs.Sums.{joined, every}
+use Rattle.lists.specs.Sums.{joined}
 use Rattle.lists.specs.Overwriting.{writtenOver}
-use Rattle.lists.proofs.Tests.{and-true}
 use Rattle.lists.proofs.Sums.{joined-append}
 use Rattle.groups.specs.Groups.{maxNumber, numberBytes}
 use Rattle.groups.specs.Inverse.{Bytes}
 use Rattle.groups.proofs.Inverse.{bytes-append, five-bytes}
 use Rattle.groups.proofs.Inverse as groups
 use Rattle.terms.specs.declared.place.Requestor.{Requestor}
-use Rattle.terms.specs.Table.{Table, rowNumbers, noRequestor, requestorClear, requestorsOf, tableOf, Bounds, denominatorBounds, countBounds, rateBounds, burstBounds, needBounds, withinBounds, heldTo, rowVerdict, eachPlace}
+use Rattle.terms.specs.Table.{Table, rowNumbers, requestorsOf, tableOf, Bounds, denominatorBounds, countBounds, rateBounds, burstBounds, needBounds, withinBounds, heldTo, rowVerdict, eachPlace}
 use Rattle.terms.specs.Refusals.{Verdict, faultless, fault, gate, then, resolve}
 use Rattle.terms.specs.Figures.{admissionVerdict}
+use Rattle.terms.specs.TableResult.{accept}
 use Rattle.terms.proofs.Checks.{then-open, held-open, Passed, passed, admitted}
-use Rattle.table_bytes.specs.Reading.{read, next, fieldRead, itemsRead, rowRead, rowsRead, placesRead, numbersRead, accept, readTable}
+use Rattle.terms.proofs.Tables.{table-rows, table-whole}
+use Rattle.table_bytes.specs.Reading.{read, next, fieldRead, itemsRead, rowRead, rowsRead, placesRead, numbersRead, readTable}
 use Rattle.table_bytes.specs.Writing.{tableNumbers, tableBytes, writeVerdict, wrote, refused, TableWritten, writeTable}
-use Rattle.table_bytes.proofs.Accepted.{table-rows}
 use Rattle.table_bytes.proofs.Opened.{Taken, table-open, read-on}
 use Rattle.round_trip.specs.RoundTrip.{Bytes-read-back, Written-reads-back, Read-writes-back}
 
@@ -68,38 +67,6 @@ rows-reads d p (r ∷ rows) rest small ok =
       row-reads d p r (joined numberBytes (joined rowNumbers rows) ++ rest) small (checked .0),
       rows-reads d (suc p) rows rest small (checked .1),
     )
-
--- a clear row is all 0, and so the rows past place N−1 of a table that passes check 2 are those of an array of rows that are 0
-clear-none : (r : Requestor) → requestorClear r ≡ true → r ≡ noRequestor
-clear-none r e =
-    let n = and-true _ _ e in
-    let b = and-true _ _ (n .1) in
-    let j = and-true _ _ (b .1) in
-    ap (λ x. record { rate = x; burst = r .burst; need = r .need; within = r .within }) (eqb-true _ _ (n .0))
-    ∙ ap (λ x. record { rate = 0; burst = x; need = r .need; within = r .within }) (eqb-true _ _ (b .0))
-    ∙ ap (λ x. record { rate = 0; burst = 0; need = record { 0 = x }; within = r .within }) (eqb-true _ _ (j .0))
-    ∙ ap (λ x. record { rate = 0; burst = 0; need = record { 0 = 0 }; within = record { 0 = x } }) (eqb-true _ _ (j .1))
-
-clear-rows : (n : ℕ) (rows : List Requestor) → every requestorClear (drop n rows) ≡ true → drop n rows ≡ drop n (replicate (length rows) noRequestor)
-unfolding every
-clear-rows zero [] e = refl
-clear-rows (suc n) [] e = refl
-clear-rows zero (r ∷ rows) e =
-    let both = and-true (requestorClear r) (every requestorClear rows) e in
-    ap₂ (λ x l. x ∷ l) (clear-none r (both .0)) (clear-rows zero rows (both .1))
-clear-rows (suc n) (r ∷ rows) e = clear-rows n rows e
-
--- a table is made of its D, its N and its first N rows
-table-whole : (t : Table) → t .count ≤ length (t .requestors) → every requestorClear (drop (t .count) (t .requestors)) ≡ true
-    → tableOf (length (t .requestors)) (t .denominator) (t .count) (requestorsOf t) ≡ t
-unfolding tableOf writtenOver
-table-whole t h clear =
-    let rows = t .requestors in
-    let zeros = replicate (length rows) noRequestor in
-    let all : requestorsOf t ++ drop (length (requestorsOf t)) zeros ≡ rows =
-    ap (λ k. requestorsOf t ++ drop k zeros) (length-take-le (t .count) rows h)
-    ∙ ap (λ l. requestorsOf t ++ l) (sym (clear-rows (t .count) rows clear)) ∙ take-append-drop (t .count) rows in
-    ap (λ l. record { denominator = t .denominator; count = t .count; requestors = l }) all
 
 table-numbers-read : (limit : ℕ) (t : Table) → limit ≤ maxNumber → length (t .requestors) ≡ limit → Passed limit t → numbersRead limit (tableBytes t ++ []) ≡ read t []
 unfolding numbersRead placesRead next tableBytes tableNumbers
@@ -154,34 +121,29 @@ bytes-read-back limit t small long ok = (table-bytes-are limit t small (passed l
 
 -- ---- an accepted writing
 
-record Wrote (limit : ℕ) (t : Table) (old : List ℕ) (k : ℕ) : Type 0 where
-  admitted : admissionVerdict limit t ≡ faultless
-  count : length (tableBytes t) ≡ k
-  buffer : writeTable limit t old .buffer ≡ writtenOver (tableBytes t) old
+pub record Wrote (limit : ℕ) (t : Table) (old : List ℕ) (k : ℕ) : Type 0 where
+  pub admitted : admissionVerdict limit t ≡ faultless
+  pub count : length (tableBytes t) ≡ k
+  pub bytes : take k (writeTable limit t old .buffer) ≡ tableBytes t
 
-wrote-open : (limit : ℕ) (t : Table) (old : List ℕ) (k : ℕ) → writeTable limit t old .answer ≡ wrote k → Wrote limit t old k
-unfolding writeTable writeVerdict
+pub wrote-open : (limit : ℕ) (t : Table) (old : List ℕ) (k : ℕ) → writeTable limit t old .answer ≡ wrote k → Wrote limit t old k
+unfolding writeTable writeVerdict writtenOver
 wrote-open limit t old k e = told (writeVerdict limit t (length old)) refl e where
   told : (v : Verdict) → writeVerdict limit t (length old) ≡ v
       → resolve {X = TableWritten} v (record { answer = wrote (length (tableBytes t)); buffer = writtenOver (tableBytes t) old }) (λ r. record { answer = refused r; buffer = old }) .answer ≡ wrote k
       → Wrote limit t old k
   told faultless f g =
       let count : length (tableBytes t) ≡ k = cc in
-      record { admitted = then-open _ _ f .0; count = count; buffer = rw f }
+      record { admitted = then-open _ _ f .0; count = count; bytes = rw f (take-at (tableBytes t) (drop (length (tableBytes t)) old) k count) }
   told (fault r) f g = let z : _≡_ {A = ℕ} 0 1 = cc in absurd (omega arith)
 
 pub written-reads-back : Written-reads-back
-unfolding writtenOver
-written-reads-back limit t old k small long e =
-    let w = wrote-open limit t old k e in
-    let bytes : take k (writeTable limit t old .buffer) ≡ tableBytes t =
-    ap (take k) (w .buffer) ∙ take-at (tableBytes t) (drop (length (tableBytes t)) old) k (w .count) in
-    rw bytes (table-reads limit t small long (w .admitted))
+written-reads-back limit t old k small long e = let w = wrote-open limit t old k e in rw (w .bytes) (table-reads limit t small long (w .admitted))
 
 -- ---- read, then written
 
 -- the table's bytes are those that it was read from
-table-bytes : {limit : ℕ} {bytes : List ℕ} {t : Table} → Bytes bytes → Taken limit bytes t [] → tableBytes t ≡ bytes
+pub table-bytes : {limit : ℕ} {bytes : List ℕ} {t : Table} → Bytes bytes → Taken limit bytes t [] → tableBytes t ≡ bytes
 unfolding tableBytes tableNumbers tableOf
 table-bytes {limit} {bytes} {t} all r =
     let rows : requestorsOf (tableOf limit (r .d) (r .n) (r .rows)) ≡ r .rows = table-rows limit (r .d) (r .n) (r .rows) (r .count) in

@@ -10,7 +10,8 @@ use Rattle.groups.specs.Inverse.{Bytes}
 use Rattle.terms.specs.Table.{Table}
 use Rattle.terms.specs.Refusals.{faultless}
 use Rattle.terms.specs.Figures.{admissionVerdict}
-use Rattle.table_bytes.specs.Reading.{accept, readTable}
+use Rattle.terms.specs.TableResult.{accept}
+use Rattle.table_bytes.specs.Reading.{readTable}
 use Rattle.table_bytes.specs.Writing.{tableBytes, wrote, writeTable}
 
 -- an accepted table's bytes are bytes, and are read as that table

@@ -1,2 +1,3 @@
--- The laws of a start from a table's bytes: the bytes are read, place after place.
+-- A table's bytes read into words, and what a start from a table's bytes comes to.
+pub mod Rows
 pub mod Begun

@@ -1,2 +1,3 @@
--- What a start comes to.
+-- A table's bytes read into words, and what a start comes to.
+pub mod Laying
 pub mod Starts

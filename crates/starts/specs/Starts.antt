@@ -4,8 +4,8 @@ use Rattle.lists.specs.Runs.{Result}
 use Rattle.terms.specs.State.{State}
 use Rattle.terms.specs.Answers.{Answer, unless}
 use Rattle.terms.specs.Start.{start, turnedDown}
-use Rattle.table_bytes.specs.Reading.{TableRead}
+use Rattle.terms.specs.TableResult.{TableResult}
 
 -- a start from a table's bytes: the reader's checks, then the start's
-unfoldable pub begun : (room : ℕ) → TableRead → (first : ℕ) → Result State Answer
+unfoldable pub begun : (room : ℕ) → TableResult → (first : ℕ) → Result State Answer
 begun room t first = unless (t .answer) (turnedDown room) (start room (t .table) first)

@@ -1,14 +1,11 @@
 -- What a reading that is not refused says of its bytes: what was read passes its checks, and its numbers' bytes stand in front of the
 -- rest. Assumes nothing.
 use mathlib.Core.Path.{_≡_, refl, ap, sym, subst, _∙_}
-use mathlib.Core.Bool.{true}
 use mathlib.Core.List.{List, [], _∷_, _++_, append-nil, append-assoc}
 use Prim.Native.Nat.{ℕ, zero, suc, _<_}
 use native.Mathlib.Omega.{arith}
-use lib.Dec.{eqb}
-use lib.ListN.{length, getD, take, drop, replicate}
-use lib.Seq.{take-at, drop-at}
-use Rattle.lists.specs.Sums.{joined, every}
+use lib.ListN.{length, getD, drop}
+use Rattle.lists.specs.Sums.{joined}
 use Rattle.lists.specs.Overwriting.{writtenOver}
 use Rattle.lists.proofs.Sums.{joined-append}
 use Rattle.groups.specs.declared.reading.Reading as number
@@ -18,10 +15,9 @@ use Rattle.groups.specs.Inverse.{Bytes, Form}
 use Rattle.groups.proofs.Inverse.{one-form}
 use Rattle.terms.specs.declared.refusals.Refusal.{Refusal}
 use Rattle.terms.specs.declared.place.Requestor.{Requestor}
-use Rattle.terms.specs.Table.{Table, rowNumbers, noRequestor, requestorClear, requestorsOf, tableOf, Bounds, rateBounds, burstBounds, needBounds, withinBounds, denominatorBounds, countBounds, heldTo, rowVerdict, eachPlace, tailVerdict, rateSumVerdict, tableVerdict}
-use Rattle.terms.specs.Refusals.{Verdict, faultless, fault, refusal, gate, then, resolve}
-use Rattle.terms.specs.Figures.{admissionVerdict}
-use Rattle.table_bytes.specs.Reading.{Read, read, stop, next, readAs, fieldRead, itemsRead, rowRead, rowsRead, placesRead, lastVerdict, accept, refuse, settled}
+use Rattle.terms.specs.Table.{rowNumbers, Bounds, rateBounds, burstBounds, needBounds, withinBounds, heldTo, rowVerdict, eachPlace}
+use Rattle.terms.specs.Refusals.{Verdict, faultless, fault, then, resolve}
+use Rattle.table_bytes.specs.Reading.{Read, read, stop, next, readAs, fieldRead, itemsRead, rowRead, rowsRead}
 use Rattle.table_bytes.proofs.Readings.{Took}
 
 -- ---- what comes next has something to be read from
@@ -167,53 +163,3 @@ rows-open (suc places) d p bytes rows rest e =
     let more = next-open (rowsRead places d (suc p) (one .left)) _ rows rest (one .second) in
     let all = rows-open-more (row-open d p bytes (one .value) (one .left) (one .first)) (rows-open places d (suc p) (one .left) (more .value) (more .left) (more .first)) in
     moved (RowsRead (suc places) d p bytes) (one .value ∷ more .value) rows (more .left) rest (more .second) all
-
--- ---- a table
-
--- rows past the last one are clear
-rest-clear : (limit n : ℕ) → every requestorClear (drop n (replicate limit noRequestor)) ≡ true
-unfolding every
-rest-clear zero zero = refl
-rest-clear zero (suc n) = refl
-rest-clear (suc limit) zero = rest-clear limit zero
-rest-clear (suc limit) (suc n) = rest-clear limit n
-
--- a table that passes 1 to 5
-passed-five : (limit : ℕ) (t : Table) → heldTo denominatorBounds (t .denominator) ≡ faultless → heldTo (countBounds limit) (t .count) ≡ faultless
-    → tailVerdict t ≡ faultless → eachPlace (rowVerdict (t .denominator)) 0 (requestorsOf t) ≡ faultless
-    → tableVerdict limit t ≡ rateSumVerdict t
-unfolding tableVerdict then
-passed-five limit t one two tail rows = rw (one, two, tail, rows)
-
-module _ (limit d n : ℕ) (rows : List Requestor) (count : length rows ≡ n) where
-  -- the rows of the table are those that were read
-  pub table-rows : take n (tableOf limit d n rows .requestors) ≡ rows
-  unfolding tableOf writtenOver
-  table-rows = take-at rows (drop (length rows) (replicate limit noRequestor)) n count
-
-  table-tail : tailVerdict (tableOf limit d n rows) ≡ faultless
-  unfolding tailVerdict gate tableOf writtenOver
-  table-tail = rw (drop-at rows (drop (length rows) (replicate limit noRequestor)) n count, rest-clear limit (length rows))
-
-  -- D, N and the rows have passed 1 to 5, so that 6 is left of the table's checks
-  pub rate-sum-left : heldTo denominatorBounds d ≡ faultless → heldTo (countBounds limit) n ≡ faultless → eachPlace (rowVerdict d) 0 rows ≡ faultless
-      → tableVerdict limit (tableOf limit d n rows) ≡ rateSumVerdict (tableOf limit d n rows)
-  unfolding tableOf
-  rate-sum-left one two rows-pass = passed-five limit (tableOf limit d n rows) one two table-tail (ap (eachPlace (rowVerdict d) 0) table-rows ∙ rows-pass)
-
--- ---- the whole reading
-
-module _ (limit d n : ℕ) (bytes : List ℕ) where
-  -- a row was refused
-  pub settled-stop : (why : Refusal) → rowsRead n d 0 bytes ≡ stop why → refuse limit why ≡ settled limit (placesRead limit d n bytes)
-  unfolding settled placesRead next
-  settled-stop why e = rw e
-
-  -- all rows were read: 10, and then admission
-  pub settled-read : (t : Table) (rows : List Requestor) (rest : List ℕ) → heldTo denominatorBounds d ≡ faultless → heldTo (countBounds limit) n ≡ faultless
-      → rowsRead n d 0 bytes ≡ read rows rest → t ≡ tableOf limit d n rows
-      → resolve (then (gate (refusal 10) (eqb (length rest) 0) faultless) (admissionVerdict limit t)) (accept t) (refuse limit) ≡ settled limit (placesRead limit d n bytes)
-  unfolding settled placesRead next lastVerdict admissionVerdict
-  settled-read t rows rest one two e f =
-      let opened = rows-open n d 0 bytes rows rest e in
-      rw (e, f, rate-sum-left limit d n rows (opened .count) one two (opened .passes))

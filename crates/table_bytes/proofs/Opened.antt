@@ -13,18 +13,12 @@ use Rattle.terms.specs.declared.refusals.Refusal.{Refusal}
 use Rattle.terms.specs.declared.place.Requestor.{Requestor}
 use Rattle.terms.specs.Table.{Table, noRequestor, rowNumbers, tableOf, denominatorBounds, countBounds, rateSumVerdict, tableVerdict}
 use Rattle.terms.specs.Refusals.{Verdict, faultless, fault, refusal, gate, then, resolve}
-use Rattle.terms.specs.Answers.{accepted}
-use Rattle.terms.specs.Answers as answers
 use Rattle.terms.specs.Figures.{finishesVerdict, admissionVerdict}
 use Rattle.terms.proofs.Checks.{gate-open, then-open, held-open, passed}
-use Rattle.table_bytes.specs.Reading.{Read, read, stop, placesRead, numbersRead, lastVerdict, TableRead, accept, refuse, settled, readTable}
-use Rattle.table_bytes.proofs.Accepted.{Spent, spent-more, field-open, field-spent, next-open, read-same, rows-open, rate-sum-left}
-
-refused-accepted : {X : Type 0} (limit : ℕ) (why : Refusal) (t : Table) → refuse limit why ≡ accept t → X
-refused-accepted limit why t e =
-    let answers : answers.refused why ≡ accepted = ap (λ (x : TableRead). x .answer) e in
-    let z : _≡_ {A = ℕ} 0 1 = cc in
-    absurd (omega arith)
+use Rattle.terms.specs.TableResult.{TableResult, accept, refuse}
+use Rattle.table_bytes.specs.Reading.{Read, read, stop, placesRead, numbersRead, lastVerdict, settled, readTable}
+use Rattle.terms.proofs.Tables.{rate-sum-left, refuse-accept}
+use Rattle.table_bytes.proofs.Accepted.{Spent, spent-more, field-open, field-spent, next-open, read-same, rows-open}
 
 -- what was taken from the bytes of a table whose numbers were read: each is within its limits, so that 6 is left of the table's checks
 pub record Taken (limit : ℕ) (bytes : List ℕ) (t : Table) (rest : List ℕ) : Type 0 where
@@ -70,6 +64,7 @@ rows-taken {limit} taken =
 
 -- it took all its bytes, and its table passes admission
 pub record Opened (limit : ℕ) (bytes : List ℕ) (t : Table) : Type 0 where
+  pub numbers : numbersRead limit bytes ≡ read t []
   pub taken : Taken limit bytes t []
   pub admitted : admissionVerdict limit t ≡ faultless
 
@@ -82,17 +77,18 @@ settled-open : (limit : ℕ) (r : Read Table) (t : Table) → settled limit r �
 unfolding settled
 settled-open limit (read u rest) t e = told (lastVerdict u rest) refl e where
   told : (v : Verdict) → lastVerdict u rest ≡ v → resolve v (accept u) (refuse limit) ≡ accept t → (l : List ℕ) × (read u rest ≡ read t l) × (lastVerdict t l ≡ faultless)
-  told faultless f g = let same : u ≡ t = ap (λ (x : TableRead). x .table) g in (rest, ap (λ x. read x rest) same, rw same at f)
-  told (fault why) f g = refused-accepted limit why t g
-settled-open limit (stop why) t e = refused-accepted limit why t e
+  told faultless f g = let same : u ≡ t = ap (λ (x : TableResult). x .table) g in (rest, ap (λ x. read x rest) same, rw same at f)
+  told (fault why) f g = refuse-accept limit why t g
+settled-open limit (stop why) t e = refuse-accept limit why t e
 
 pub table-open : (limit : ℕ) (bytes : List ℕ) (t : Table) → readTable limit bytes ≡ accept t → Opened limit bytes t
 unfolding readTable lastVerdict admissionVerdict
 table-open limit bytes t e =
     let (rest, whole, last) = settled-open limit (numbersRead limit bytes) t e in
     let (none, checked) = nothing-left rest (then (rateSumVerdict t) (finishesVerdict t)) last in
-    let taken = numbers-open limit bytes t [] (whole ∙ ap (read t) none) in
-    record { taken = taken; admitted = rw (taken .checked) checked }
+    let numbers = whole ∙ ap (read t) none in
+    let taken = numbers-open limit bytes t [] numbers in
+    record { numbers = numbers; taken = taken; admitted = rw (taken .checked) checked }
 
 -- ---- and the other way round
 

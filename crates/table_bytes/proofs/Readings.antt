@@ -19,7 +19,7 @@ use Rattle.terms.specs.Refusals.{faultless, fault, refusal, refusalOf}
 use Rattle.table_bytes.specs.declared.fields.Number as code
 use Rattle.table_bytes.specs.declared.fields.Field.{Field}
 use Rattle.table_bytes.specs.declared.fields.Field.the-variants as field
-use Rattle.table_bytes.specs.Reading.{Read, read, stop, next, numberRead, fieldRead, itemsRead, rowRead, placesRead, numbersRead, refuse, settled, readTable, fieldOf, takenByField}
+use Rattle.table_bytes.specs.Reading.{Read, read, stop, next, numberRead, fieldRead, itemsRead, rowRead, placesRead, numbersRead, fieldOf, takenByField}
 
 -- ---- one number
 
@@ -218,11 +218,3 @@ pub table-begins : (limit : ℕ) (bytes : List ℕ) → numbersRead limit bytes 
     placesRead limit d n rest)
 unfolding numbersRead
 table-begins limit bytes = refl
-
-pub table-stop : (limit : ℕ) (bytes : List ℕ) (why : Refusal) → stop why ≡ numbersRead limit bytes → refuse limit why ≡ readTable limit bytes
-unfolding readTable settled
-table-stop limit bytes why e = rw (← e)
-
-pub table-read : (limit : ℕ) (bytes : List ℕ) (places : Read Table) → numbersRead limit bytes ≡ places → settled limit places ≡ readTable limit bytes
-unfolding readTable
-table-read limit bytes places e = rw e

@@ -10,10 +10,10 @@ use Rattle.groups.specs.declared.reading.Reading.the-variants.{Number, Ended, M
 use Rattle.groups.specs.Groups.{numberOf}
 use Rattle.terms.specs.declared.refusals.Refusal.{Refusal}
 use Rattle.terms.specs.declared.place.Requestor.{Requestor}
-use Rattle.terms.specs.Table.{Table, tableOf, noTable, Bounds, denominatorBounds, countBounds, rateBounds, burstBounds, needBounds, withinBounds, heldTo, rateSumVerdict}
+use Rattle.terms.specs.Table.{Table, tableOf, Bounds, denominatorBounds, countBounds, rateBounds, burstBounds, needBounds, withinBounds, heldTo, rateSumVerdict}
 use Rattle.terms.specs.Refusals.{Verdict, faultless, refusal, refusalOf, gate, then, resolve}
-use Rattle.terms.specs.Answers.{Answer, accepted, refused}
 use Rattle.terms.specs.Figures.{finishesVerdict}
+use Rattle.terms.specs.TableResult.{TableResult, accept, refuse}
 use Rattle.table_bytes.specs.declared.fields.Field.{Field}
 use Rattle.table_bytes.specs.declared.fields.Field.the-variants as field
 use Rattle.table_bytes.specs.declared.rows.Row.{Row}
@@ -74,27 +74,20 @@ numbersRead limit bytes =
     next (fieldRead (countBounds limit) rest) λ n rest.
     placesRead limit d n rest
 
+-- 10, by what is left behind them
+abbrev pub leftVerdict : (rest : List ℕ) → Verdict
+leftVerdict rest = gate (refusal 10) (eqb (length rest) 0) faultless
+
 -- then 10, 6, 7
 unfoldable pub lastVerdict : Table → (rest : List ℕ) → Verdict
-lastVerdict t rest = then (gate (refusal 10) (eqb (length rest) 0) faultless) (then (rateSumVerdict t) (finishesVerdict t))
+lastVerdict t rest = then (leftVerdict rest) (then (rateSumVerdict t) (finishesVerdict t))
 
--- what the call comes to
-pub record TableRead : Type 0 where
-  pub table : Table
-  pub answer : Answer
-
-abbrev pub accept : Table → TableRead
-accept t = record { table = t; answer = accepted }
-
-abbrev pub refuse : ℕ → Refusal → TableRead
-refuse limit r = record { table = noTable limit; answer = refused r }
-
-unfoldable pub settled : ℕ → Read Table → TableRead
+unfoldable pub settled : ℕ → Read Table → TableResult
 settled limit (read t rest) = resolve (lastVerdict t rest) (accept t) (refuse limit)
 settled limit (stop r) = refuse limit r
 
 -- a table from its bytes
-unfoldable pub readTable : ℕ → List ℕ → TableRead
+unfoldable pub readTable : ℕ → List ℕ → TableResult
 readTable limit bytes = settled limit (numbersRead limit bytes)
 
 -- the code's results in these values: a field and a row with how many of the bytes they took

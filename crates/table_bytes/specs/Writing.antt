@@ -22,9 +22,13 @@ tableNumbers t = t .denominator ∷ t .count ∷ joined rowNumbers (requestorsOf
 unfoldable pub tableBytes : Table → List ℕ
 tableBytes t = joined numberBytes (tableNumbers t)
 
--- the checks of a table given as numbers, then 14 by the buffer's room
+-- 14, by the buffer's room
+abbrev pub roomVerdict : Table → (room : ℕ) → Verdict
+roomVerdict t room = gate (refusal 14) (leb (length (tableBytes t)) room) faultless
+
+-- the checks of a table given as numbers, then 14
 unfoldable pub writeVerdict : ℕ → Table → (room : ℕ) → Verdict
-writeVerdict limit t room = then (admissionVerdict limit t) (gate (refusal 14) (leb (length (tableBytes t)) room) faultless)
+writeVerdict limit t room = then (admissionVerdict limit t) (roomVerdict t room)
 
 -- what the call answers: how many bytes it wrote, or why it wrote none
 pub data WriteAnswer : Type 0 where
@@ -36,12 +40,16 @@ pub record TableWritten : Type 0 where
   pub answer : WriteAnswer
   pub buffer : List ℕ
 
--- a table's bytes into a buffer; `limit` is how many places there is room for
-unfoldable pub writeTable : ℕ → Table → (old : List ℕ) → TableWritten
-writeTable limit t old =
-    resolve (writeVerdict limit t (length old))
+-- by the verdict on it
+abbrev pub writtenBy : Verdict → Table → (old : List ℕ) → TableWritten
+writtenBy v t old =
+    resolve v
     (record { answer = wrote (length (tableBytes t)); buffer = writtenOver (tableBytes t) old })
     (λ r. record { answer = refused r; buffer = old })
+
+-- a table's bytes into a buffer; `limit` is how many places there is room for
+unfoldable pub writeTable : ℕ → Table → (old : List ℕ) → TableWritten
+writeTable limit t old = writtenBy (writeVerdict limit t (length old)) t old
 
 -- the code's answer in these values
 abbrev pub writeAnswerOf : code.WriteAnswer → WriteAnswer

@@ -110,6 +110,16 @@ row-open d p r e =
       within-most = wi .1;
     }
 
+-- at any place
+pub row-passes : (d p : ℕ) (r : Requestor) → Row d r → rowVerdict d p r ≡ faultless
+unfolding rowVerdict then
+row-passes d p r h = rw (
+  held (rateBounds d p) (r .rate) (h .rate-least) (h .rate-most),
+  held (burstBounds d p) (r .burst) (h .burst-least) (h .burst-most),
+  held (needBounds p) (r .need .0) (h .need-least) (h .need-most),
+  held (withinBounds p) (r .within .0) (h .within-least) (h .within-most),
+)
+
 -- what each of checks 1 to 6 says of a table that passes them all
 pub record Passed (limit : ℕ) (t : Table) : Type 0 where
   pub denominator : heldTo denominatorBounds (t .denominator) ≡ faultless

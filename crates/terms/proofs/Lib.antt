@@ -1,6 +1,7 @@
--- Laws that belong to no one function: refusals, checks, walks over places, sums above a place, figures, and sound states.
+-- Laws that belong to no one function: refusals, checks, tables made of their rows, walks over places, sums above a place, figures, and sound states.
 pub mod Causes
 pub mod Checks
+pub mod Tables
 pub mod AsTests
 pub mod Places
 pub mod Above

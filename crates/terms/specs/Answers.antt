@@ -11,10 +11,12 @@ use Rattle.terms.specs.declared.answers.RunAnswer.{RunAnswer}
 use Rattle.terms.specs.declared.answers.RunAnswer.the-variants as run-answer
 use Rattle.terms.specs.declared.answers.ReadAnswer.{ReadAnswer}
 use Rattle.terms.specs.declared.answers.ReadAnswer.the-variants as read-answer
+use Rattle.terms.specs.declared.answers.OrderAnswer.{OrderAnswer}
+use Rattle.terms.specs.declared.answers.OrderAnswer.the-variants as order-answer
 use Rattle.terms.specs.Refusals.{refusalOf}
 
 pub data Answer : Type 0 where
-  -- a start, a post, a run or a reading was carried out
+  -- a start, a post, a run, a reading or an ordering was carried out
   accepted : Answer
   -- a slot's stamp and the place granted
   granted : (stamp place : ℕ) → Answer
@@ -51,3 +53,7 @@ runAnswerOf (run-answer.Refused c) = refused (refusalOf c)
 abbrev pub readAnswerOf : ReadAnswer → Answer
 readAnswerOf read-answer.Accepted = accepted
 readAnswerOf (read-answer.Refused c) = refused (refusalOf c)
+
+abbrev pub orderAnswerOf : OrderAnswer → Answer
+orderAnswerOf order-answer.Ordered = accepted
+orderAnswerOf (order-answer.Refused c) = refused (refusalOf c)

@@ -1,5 +1,5 @@
--- Document 01, "Refusals caused by the input" and "Refusals caused by the state": the number of each refusal, the place that
--- it names, and what caused it; and how a series of checks picks the first fault.
+-- Document 01, "Refusals caused by the input" and "Refusals caused by the state", with 15 of document 02: the number of each refusal, the
+-- place that it names, and what caused it; and how a series of checks picks the first fault.
 use mathlib.Core.Path.{_≡_}
 use mathlib.Core.Bool.{Bool}
 use Prim.Native.Nat.{ℕ}
@@ -34,6 +34,7 @@ inputNumber input.NoSuchPlace = 11
 inputNumber input.FirstSlot = 12
 inputNumber input.TooLong = 13
 inputNumber input.BufferShort = 14
+inputNumber input.NoOrder = 15
 
 -- the place: 3, 4, 5 and 7 name one
 abbrev pub inputPlace : InputRefusal → Named
@@ -51,6 +52,7 @@ inputPlace input.NoSuchPlace = named.Nowhere
 inputPlace input.FirstSlot = named.Nowhere
 inputPlace input.TooLong = named.Nowhere
 inputPlace input.BufferShort = named.Nowhere
+inputPlace input.NoOrder = named.Nowhere
 
 -- the number of each refusal that the state causes
 abbrev pub stateNumber : StateRefusal → ℕ
@@ -58,7 +60,7 @@ stateNumber state.BacklogLimit = 21
 stateNumber state.SlotLimit = 22
 stateNumber state.Unsound = 23
 
--- document 01's number, place and cause of each case of the code's enum
+-- the papers' number, place and cause of each case of the code's enum
 abbrev pub refusalOf : Cause → Refusal
 refusalOf (cause.Input i) = record { number = inputNumber i; place = inputPlace i; origin = origin.Input }
 refusalOf (cause.State s) = record { number = stateNumber s; place = named.Nowhere; origin = origin.State }

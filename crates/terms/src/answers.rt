@@ -59,6 +59,12 @@ pub enum ReadAnswer {
     Refused(Cause),
 }
 
+// The table handed back has its requestors in an order that passes admission, or why there is none.
+pub enum OrderAnswer {
+    Ordered,
+    Refused(Cause),
+}
+
 // How many bytes were written, or why none.
 pub enum WriteAnswer {
     Wrote(usize),

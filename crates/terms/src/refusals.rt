@@ -2,7 +2,7 @@
 ghost use mathlib.Core.Path.{_≡_};
 ghost use Rattle.terms.specs.Refusals.{inputNumber, inputPlace, stateNumber, refusalOf, verdictOf, then};
 
-// Refusals 1 to 14. Those that name a place hold it.
+// Refusals 1 to 15. Those that name a place hold it.
 pub enum InputRefusal {
     Denominator,
     Count,
@@ -18,6 +18,7 @@ pub enum InputRefusal {
     FirstSlot,
     TooLong,
     BufferShort,
+    NoOrder,
 }
 
 // Refusals 21 to 23.
@@ -76,6 +77,7 @@ fn input_number(i: InputRefusal) -> u32
         InputRefusal::FirstSlot => 12,
         InputRefusal::TooLong => 13,
         InputRefusal::BufferShort => 14,
+        InputRefusal::NoOrder => 15,
     }
 }
 
@@ -97,6 +99,7 @@ fn input_place(i: InputRefusal) -> Named
         InputRefusal::FirstSlot => Named::Nowhere,
         InputRefusal::TooLong => Named::Nowhere,
         InputRefusal::BufferShort => Named::Nowhere,
+        InputRefusal::NoOrder => Named::Nowhere,
     }
 }
 

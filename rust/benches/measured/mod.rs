@@ -10,7 +10,7 @@ use std::hint::black_box;
 use std::time::{Duration, Instant};
 
 use justrave::{Arbiter, Slots, Transfers};
-use model::{Requestor, State, Table, MAX_BACKLOG, MAX_LOG};
+use model::{Requestor, State, Table, MAX_BACKLOG, MAX_LOG, MAX_PLACES};
 
 /// Calls in one measurement of a short call: a clock is too coarse for one.
 const BATCH: usize = 2_000;
@@ -70,12 +70,37 @@ impl Load {
     }
 }
 
+/// How the requestors are listed that an order is found for.
+#[derive(Clone, Copy)]
+enum List {
+    /// As they will stand: one need is tested for each place.
+    Right,
+    /// The lowest priority first: for each place the needs of all that remain are tested.
+    Worst,
+}
+
+impl List {
+    fn name(self) -> &'static str {
+        match self {
+            List::Right => "already right",
+            List::Worst => "the worst way round",
+        }
+    }
+}
+
 /// N = 1, 4 and 16, first with room for 16 places, where the model looks at 16 too, and then with room for exactly N, where it looks at
-/// these. Last post and slot with room for exactly N once more, beside a model that is not compiled for this number.
+/// these. Then post and slot with room for exactly N once more, beside a model that is not compiled for this number. Last orders, which
+/// are lent no state and always have room for 16.
 pub fn all() -> Vec<Case> {
     let rooms = [in_room::<16>(1), in_room::<16>(4), in_room::<16>(16), in_room::<1>(1), in_room::<4>(4)];
     let slices = [beside_slice::<1>(), beside_slice::<4>(), beside_slice::<16>()];
-    rooms.into_iter().chain(slices).flatten().collect()
+    rooms.into_iter().chain(slices).flatten().chain(all_orders()).collect()
+}
+
+/// One requestor can be listed in one way only.
+fn all_orders() -> Vec<Case> {
+    let several = [4, 16].into_iter().flat_map(|places| [List::Right, List::Worst].map(|list| orders(places, list)));
+    [orders(1, List::Right)].into_iter().chain(several).collect()
 }
 
 fn in_room<const ROOM: usize>(places: usize) -> Vec<Case> {
@@ -237,6 +262,43 @@ fn starts_from_numbers<const ROOM: usize>(places: usize) -> Case {
         }),
         model: Box::new(move |many| {
             timed(many, || State::start_numbers(black_box(&rows), 0).expect("the table is accepted"))
+        }),
+    }
+}
+
+/// Equal shares, and to each need the slots of one place, so that one order passes. The slots are worked out here: one more caller of
+/// the model's figure, and it would be compiled in another way where starts are measured.
+fn list_bytes(places: usize, list: List) -> Vec<u8> {
+    let mut table = table::<MAX_PLACES>(places);
+    let (mut above, mut left) = (0, table.denominator);
+    for row in &mut table.requestors[..places] {
+        row.within = (above * row.rate + row.need * table.denominator * left).div_ceil(left * row.rate);
+        above += row.burst;
+        left -= row.rate;
+    }
+    match list {
+        List::Right => {}
+        List::Worst => table.requestors[..places].reverse(),
+    }
+    table.bytes()
+}
+
+/// An order reads the list, finds places and writes the table: bytes, limits, rate sum, needs and bytes again.
+fn orders(places: usize, list: List) -> Case {
+    let bytes = list_bytes(places, list);
+    let also = bytes.clone();
+    Case {
+        call: format!("order, {}", list.name()),
+        places,
+        room: MAX_PLACES,
+        many: BATCH,
+        product: Box::new(move |many| {
+            let mut buffer = [0xA5; Arbiter::TABLE_ROOM];
+            timed(many, || justrave::order(black_box(&bytes), black_box(&mut buffer)).expect("an order passes"))
+        }),
+        model: Box::new(move |many| {
+            let mut buffer = [0xA5; Arbiter::TABLE_ROOM];
+            timed(many, || model::order(black_box(&also), black_box(&mut buffer)).expect("an order passes"))
         }),
     }
 }

@@ -172,8 +172,8 @@ fn posts(chance: &mut Chance, habits: &[(u64, u64)]) -> Vec<(usize, u64)> {
     due.map(|(place, habit)| (place, habit.0)).collect()
 }
 
-fn list_of_calls(chance: &mut Chance, first: u64) -> Seen {
-    let mut seen = Seen::start(tables::tight(chance), first);
+fn list_of_calls(chance: &mut Chance, table: Table, first: u64) -> Seen {
+    let mut seen = Seen::start(table, first);
     let habits = habits(chance, seen.places());
     while seen.moments.len() < 110 && seen.model.slot < MAX_SLOT {
         for (place, count) in posts(chance, &habits) {
@@ -206,10 +206,29 @@ fn floor_ceiling_and_need() {
     let mut chance = Chance::of("floor, ceiling, need");
     let mut bites = Bites::default();
     for _ in 0..rounds(150) {
-        bites.check(&list_of_calls(&mut chance, 0));
+        let table = tables::tight(&mut chance);
+        bites.check(&list_of_calls(&mut chance, table, 0));
     }
     println!("bounds that said something: {bites:?}");
     assert!(bites.floor > 10_000 && bites.ceiling > 1_000 && bites.need > 1_000);
+}
+
+/// Change request 2: the bounds of a table that an order made are those of its own places.
+#[test]
+fn floor_ceiling_and_need_of_an_ordered_table() {
+    let mut chance = Chance::of("an ordered table");
+    let (mut bites, mut moved) = (Bites::default(), 0);
+    for _ in 0..rounds(100) {
+        let list = tables::listed(&mut chance, 5);
+        let mut buffer = [0; Arbiter::TABLE_ROOM];
+        if let Ok(length) = justrave::order(&list.bytes(), &mut buffer) {
+            let table = Table::read(&buffer[..length]).expect("the table is accepted");
+            bites.check(&list_of_calls(&mut chance, table, 0));
+            moved += u64::from(table != list);
+        }
+    }
+    println!("tables with other places than in the list: {moved}, bounds that said something: {bites:?}");
+    assert!(moved > 10 && bites.floor > 1_000 && bites.ceiling > 100 && bites.need > 100);
 }
 
 /// The list runs up against the last slot number, and goes on with refused slots.
@@ -217,7 +236,8 @@ fn floor_ceiling_and_need() {
 fn lists_at_the_last_slot() {
     let mut chance = Chance::of("the last slot");
     for _ in 0..rounds(50) {
-        let mut seen = list_of_calls(&mut chance, MAX_SLOT - 60);
+        let table = tables::tight(&mut chance);
+        let mut seen = list_of_calls(&mut chance, table, MAX_SLOT - 60);
         assert_eq!(seen.model.slot, MAX_SLOT);
         seen.slot();
         seen.run(1);

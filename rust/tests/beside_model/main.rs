@@ -5,6 +5,7 @@ mod demand3;
 mod differential;
 mod installed;
 mod model;
+mod order;
 mod rooms;
 mod rows;
 mod support;

@@ -46,33 +46,56 @@ impl Reader<'_> {
 impl<const PLACES: usize> Table<PLACES> {
     /// An accepted table from its bytes.
     pub fn read(bytes: &[u8]) -> Result<Table<PLACES>, Fault> {
-        let mut reader = Reader(bytes);
-        let mut table = Table { denominator: reader.checked(check_denominator)?, ..Table::default() };
-        table.count = reader.checked(|count| check_count(count, PLACES))?;
-        for place in 0..table.count as usize {
-            table.requestors[place] = reader.requestor(table.denominator, place)?;
-        }
-        pass(reader.0.is_empty(), 10)?;
-        table.check_rate_sum()?;
+        let mut table = Table::default();
+        table.read_list(bytes)?;
         table.check_finishes()?;
         Ok(table)
+    }
+
+    /// Fills a table that is all 0. The requestors may stand in any order: every check but 7 is passed.
+    pub fn read_list(&mut self, bytes: &[u8]) -> Result<(), Fault> {
+        let mut reader = Reader(bytes);
+        self.denominator = reader.checked(check_denominator)?;
+        self.count = reader.checked(|count| check_count(count, PLACES))?;
+        for place in 0..self.count as usize {
+            self.requestors[place] = reader.requestor(self.denominator, place)?;
+        }
+        pass(reader.0.is_empty(), 10)?;
+        self.check_rate_sum()
     }
 
     /// The bytes of a table whose N is within its limits.
     pub fn bytes(&self) -> Vec<u8> {
         let rows = self.used().iter().flat_map(|row| [row.rate, row.burst, row.need, row.within]);
-        [self.denominator, self.count].into_iter().chain(rows).flat_map(number_bytes).collect()
+        // room for all of them, so that memory is asked for once: this is measured beside the product
+        let mut bytes = Vec::with_capacity(5 * (2 + 4 * PLACES));
+        for number in [self.denominator, self.count].into_iter().chain(rows) {
+            put_number(&mut bytes, number);
+        }
+        bytes
+    }
+
+    /// How many bytes were put at the buffer's start. 14.
+    pub fn write(&self, buffer: &mut [u8]) -> Result<usize, Fault> {
+        let bytes = self.bytes();
+        let front = buffer.get_mut(..bytes.len()).ok_or(Fault { number: 14, place: None })?;
+        front.copy_from_slice(&bytes);
+        Ok(bytes.len())
     }
 }
 
 /// A number in its shortest form.
 pub fn number_bytes(number: u64) -> Vec<u8> {
     let mut bytes = Vec::new();
+    put_number(&mut bytes, number);
+    bytes
+}
+
+fn put_number(bytes: &mut Vec<u8>, number: u64) {
     let mut left = number;
     while left >= 0x80 {
         bytes.push((left & 0x7F) as u8 | 0x80);
         left >>= 7;
     }
     bytes.push(left as u8);
-    bytes
 }

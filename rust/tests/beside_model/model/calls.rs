@@ -82,10 +82,7 @@ impl<const PLACES: usize> State<PLACES> {
     pub fn write_table(&self, buffer: &mut [u8]) -> Result<usize, Fault> {
         self.check()?;
         self.table.check_finishes()?;
-        let bytes = self.table.bytes();
-        let front = buffer.get_mut(..bytes.len()).ok_or(Fault { number: 14, place: None })?;
-        front.copy_from_slice(&bytes);
-        Ok(bytes.len())
+        self.table.write(buffer)
     }
 
     pub fn account(&self, place: usize) -> Result<Account, Fault> {

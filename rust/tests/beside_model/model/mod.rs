@@ -3,10 +3,12 @@
 
 mod bytes;
 mod calls;
+mod order;
 mod table;
 
 pub use bytes::number_bytes;
 pub use calls::{Account, State};
+pub use order::order;
 pub use table::{Requestor, Table};
 
 pub const MAX_PLACES: usize = 16;

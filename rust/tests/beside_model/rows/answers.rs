@@ -5,6 +5,7 @@ use justrave::{sys, Arbiter, Cause, Refusal, SlotAnswer, Transfers};
 
 use super::row::{Call, Row};
 use crate::model::{State, IDLE};
+use crate::support::calls::answer_of;
 use crate::support::words::{state_of, words_of};
 
 /// What stands in lent bytes before a call.
@@ -19,6 +20,8 @@ pub fn told(row: &Row) -> String {
         Call::ReadTable => read_table(row),
         Call::WriteTable => write_table(row),
         Call::TableBytes => table_bytes(row),
+        Call::Order => order(row),
+        Call::OrderBytes => order_bytes(row),
         Call::Post => post(row),
         Call::Slot => slot(row),
         Call::Run => run(row),
@@ -60,17 +63,6 @@ fn accounts(words: &[u64]) -> String {
 
 fn decimals(bytes: &[u8]) -> String {
     bytes.iter().map(u8::to_string).collect::<Vec<_>>().join(" ")
-}
-
-/// An outcome: the refusal's number in the low 8 bits, and above them the place + 1.
-fn answer_of(outcome: u64) -> Result<(), Refusal> {
-    if outcome == 0 {
-        return Ok(());
-    }
-    let number = (outcome & 255) as u8;
-    let place = (outcome >> 8).checked_sub(1).map(|place| place as usize);
-    let cause = if (21..=29).contains(&number) { Cause::State } else { Cause::Input };
-    Err(Refusal { number, place, cause })
 }
 
 type Words = [u64; <Arbiter>::STATE_WORDS];
@@ -157,7 +149,44 @@ fn write_table(row: &Row) -> String {
 fn table_bytes(row: &Row) -> String {
     let (mut buffer, room) = memory(row.number("room"));
     arbiter(row).write_table(&mut buffer[..room]).expect("the table is written");
-    buffer[..room].iter().map(|byte| format!("{byte:02x}")).collect::<Vec<_>>().join(" ")
+    sixteens(&buffer[..room])
+}
+
+fn sixteens(bytes: &[u8]) -> String {
+    bytes.iter().map(|byte| format!("{byte:02x}")).collect::<Vec<_>>().join(" ")
+}
+
+/// A buffer of this length after an order of the bytes, and how many of it were written.
+fn ordered(bytes: &[u8], room: u64) -> Result<(Vec<u8>, usize), String> {
+    let ((mut buffer, room), mut answer) = (memory(room), [u64::MAX]);
+    let lent = &mut buffer[..room];
+    // SAFETY: all three have their lengths behind them, and what is written is of this function.
+    let outcome = unsafe {
+        sys::justrave_order(bytes.as_ptr(), bytes.len(), lent.as_mut_ptr(), lent.len(), answer.as_mut_ptr(), 1)
+    };
+    if let Err(refusal) = answer_of(outcome) {
+        assert_eq!(answer, [u64::MAX], "a refused order wrote its answer");
+        return Err(refused_and(refusal, "buffer kept", untouched(&buffer)));
+    }
+    let wrote = answer[0] as usize;
+    assert!(untouched(&buffer[wrote..]), "an order wrote behind its table");
+    buffer.truncate(room);
+    Ok((buffer, wrote))
+}
+
+/// The numbers are those that a start reads, so that an order which no start takes shows.
+fn order(row: &Row) -> String {
+    match ordered(&row.table().bytes(), Arbiter::TABLE_ROOM as u64) {
+        Ok((buffer, wrote)) => match start_bytes(&buffer[..wrote]) {
+            (Ok(()), words) => format!("ordered {}", table_numbers(&words)),
+            (Err(refusal), _) => format!("ordered, and a start is {}", refused(refusal)),
+        },
+        Err(told) => told,
+    }
+}
+
+fn order_bytes(row: &Row) -> String {
+    ordered(&row.bytes("bytes"), row.number("room")).map_or_else(|told| told, |(buffer, _)| sixteens(&buffer))
 }
 
 fn post(row: &Row) -> String {

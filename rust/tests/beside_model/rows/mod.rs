@@ -32,7 +32,7 @@ fn each_row_through_the_exported_functions() {
     for call in Call::ALL {
         assert!(counts.contains_key(call.name()), "there is no row of {}", call.name());
     }
-    assert!(all >= 358, "of the first 358 rows only {all} are there");
+    assert!(all >= 463, "of the first 463 rows only {all} are there");
 }
 
 #[test]
@@ -52,6 +52,9 @@ fn lines_that_are_no_rows() {
         "admit 4: faultless",
         "lead T place 0 length 1 each 0 log 0: 3",
         "read_table bytes 4: accepted",
+        "order T room 10: ordered",
+        "order T bytes 04: ordered",
+        "order_bytes T room 10: 04",
         "post T place 0 count 18446744073709551616: accepted",
     ] {
         assert!(Row::parse(line).is_err(), "understood: {line}");

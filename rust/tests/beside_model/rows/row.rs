@@ -9,6 +9,8 @@ pub enum Call {
     ReadTable,
     WriteTable,
     TableBytes,
+    Order,
+    OrderBytes,
     Post,
     Slot,
     Run,
@@ -26,12 +28,14 @@ const TABLE: &str = "T D N rate burst need within";
 const STATE: &str = "T D N rate burst need within credit backlog slot";
 
 impl Call {
-    pub const ALL: [Call; 16] = [
+    pub const ALL: [Call; 18] = [
         Call::Admit,
         Call::Start,
         Call::ReadTable,
         Call::WriteTable,
         Call::TableBytes,
+        Call::Order,
+        Call::OrderBytes,
         Call::Post,
         Call::Slot,
         Call::Run,
@@ -57,6 +61,8 @@ impl Call {
             Call::ReadTable => ("read_table", "", "bytes"),
             Call::WriteTable => ("write_table", TABLE, "room"),
             Call::TableBytes => ("table_bytes", TABLE, "room"),
+            Call::Order => ("order", TABLE, ""),
+            Call::OrderBytes => ("order_bytes", "", "bytes room"),
             Call::Post => ("post", STATE, "place count"),
             Call::Slot => ("slot", STATE, ""),
             Call::Run => ("run", STATE, "length"),
@@ -196,7 +202,7 @@ impl Row {
         std::array::from_fn(|place| given.get(place).copied().unwrap_or(0))
     }
 
-    fn table(&self) -> Table {
+    pub fn table(&self) -> Table {
         let (rate, burst) = (self.places("rate", &[1, 1]), self.places("burst", &[8, 4]));
         let (need, within) = (self.places("need", &[1, 1]), self.places("within", &[4, 7]));
         let requestor = |p: usize| Requestor { rate: rate[p], burst: burst[p], need: need[p], within: within[p] };

@@ -102,6 +102,17 @@ fn slot_numbers(answer: SlotAnswer) -> Vec<i64> {
     }
 }
 
+/// What an outcome of an exported function says: the refusal's number in the low 8 bits, and above them the place + 1.
+pub fn answer_of(outcome: u64) -> Result<(), Refusal> {
+    if outcome == 0 {
+        return Ok(());
+    }
+    let number = (outcome & 255) as u8;
+    let place = (outcome >> 8).checked_sub(1).map(|place| place as usize);
+    let cause = if (21..=29).contains(&number) { Cause::State } else { Cause::Input };
+    Err(Refusal { number, place, cause })
+}
+
 pub fn turned_by_product(refusal: Refusal) -> Turned {
     (refusal.number, refusal.place, refusal.cause == Cause::State)
 }

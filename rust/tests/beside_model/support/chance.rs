@@ -42,6 +42,13 @@ impl Chance {
         choices[self.index(choices.len())]
     }
 
+    /// Any order of the items, each as likely as the others.
+    pub fn shuffle<T>(&mut self, items: &mut [T]) {
+        for length in (2..=items.len()).rev() {
+            items.swap(length - 1, self.index(length));
+        }
+    }
+
     pub fn bytes(&mut self, length: usize) -> Vec<u8> {
         (0..length).map(|_| self.next() as u8).collect()
     }

@@ -22,7 +22,12 @@ pub fn accepted<const ROOM: usize>(chance: &mut Chance) -> Table<ROOM> {
 
 /// A small table whose needs are as tight as they may be: its bounds bite within a hundred slots.
 pub fn tight(chance: &mut Chance) -> Table {
-    let count = chance.within(1, 5);
+    tight_up_to(chance, 5)
+}
+
+/// The same with up to so many places.
+pub fn tight_up_to(chance: &mut Chance, most: u64) -> Table {
+    let count = chance.within(1, most);
     let mut table = Table { denominator: chance.within(count, 24), count, ..Table::default() };
     let rates = rates(chance, table.denominator, count);
     for (row, rate) in table.requestors.iter_mut().zip(rates) {
@@ -33,6 +38,51 @@ pub fn tight(chance: &mut Chance) -> Table {
         table.requestors[place].within = table.finish(place, table.requestors[place].need);
     }
     table
+}
+
+/// A list near the edge, of up to so many requestors in any order: those of a tight table, with a few slots more for each or one less
+/// for one, so that no order passes, or one, or several. Two may be equal.
+pub fn listed(chance: &mut Chance, most: u64) -> Table {
+    let mut table = tight_up_to(chance, most);
+    let more = chance.pick(&[0, 0, 1, 3, 30]);
+    for row in &mut table.requestors[..table.count as usize] {
+        row.within += chance.within(0, more);
+    }
+    let (one, other) = (chance.index(table.count as usize), chance.index(table.count as usize));
+    if chance.one_in(4) {
+        let rate = table.requestors[one].rate.min(table.requestors[other].rate);
+        table.requestors[one].rate = rate;
+        table.requestors[other] = table.requestors[one];
+    }
+    if chance.one_in(3) {
+        let within = &mut table.requestors[one].within;
+        *within = 1.max(*within - 1);
+    }
+    shuffled(chance, table)
+}
+
+/// The same requestors in any order.
+pub fn shuffled(chance: &mut Chance, mut table: Table) -> Table {
+    chance.shuffle(&mut table.requestors[..table.count as usize]);
+    table
+}
+
+/// Bytes of lists of every kind: near the edge, accepted in some order, with numbers out of their limits, with too much of a rate,
+/// and damaged; and those of `bytes`.
+pub fn list_bytes(chance: &mut Chance) -> Vec<u8> {
+    let most = chance.pick(&[2, 3, 6, 16]);
+    let list = match chance.within(0, 5) {
+        0..=2 => listed(chance, most),
+        3 => accepted(chance),
+        4 => crowded(chance),
+        _ => doubtful(chance),
+    };
+    let list = shuffled(chance, list);
+    match chance.within(0, 5) {
+        0 => damaged_bytes(chance, list.bytes()),
+        1 => bytes(chance),
+        _ => list.bytes(),
+    }
 }
 
 fn count(chance: &mut Chance, room: usize) -> u64 {
