@@ -177,7 +177,7 @@ uint64_t justrave_start_numbers(const uint32_t *numbers, size_t numbers_length, 
  * them, as no words are lent; written to the buffer's start are the bytes of a table with the same requestors that a start takes, and
  * the rest of the buffer is left. The answer is how many bytes were written: as many as were read. justrave_write cannot write a list
  * that no start takes. The bytes of one are D, N, then rate, burst, j and L of each requestor: seven bits of a number to a byte, the low
- * ones first, with the top bit set in every byte of a number but its last.
+ * ones first, in as few bytes as it takes, with the top bit set in every byte of a number but its last.
  *
  * Where several orders would do, the list decides. The lowest priority goes to the last requestor in the list that can bear all others
  * above it, which is to say that its finish figure there is at most its need's L; it leaves the list, the others stay as they stood, and

@@ -2,7 +2,7 @@
 use mathlib.Core.Path.{_≡_, refl, ap, sym, _∙_}
 use mathlib.Core.Bool.{Bool, true, false, _&&_}
 use mathlib.Core.List.{List, [], _∷_}
-use Prim.Native.Nat.{ℕ, _≤_}
+use Prim.Native.Nat.{ℕ}
 use native.Mathlib.Omega.{arith}
 use borrow.Author.Tests.{eq-eqb}
 use lib.Dec.{eqb}
@@ -12,21 +12,19 @@ use Rattle.lists.specs.Choices.{pick}
 use Rattle.lists.specs.Overwriting.{writtenOver}
 use Rattle.lists.specs.Runs.{Result, end, answers}
 use Rattle.lists.proofs.Tests.{cases, true-false, and-true, true-and}
-use Rattle.lists.proofs.Overwriting.{length-over}
 use Rattle.terms.specs.declared.refusals.Refusal.{Refusal}
 use Rattle.terms.specs.declared.place.Account.{Account}
 use Rattle.terms.specs.State.{State, noAccount, sound, Shaped, placeVerdict}
-use Rattle.terms.specs.Table.{Table, noRequestor, tableOf, denominatorBounds, countBounds, requestorsOf}
+use Rattle.terms.specs.Table.{Table, noRequestor, tableOf, requestorsOf}
 use Rattle.terms.specs.Refusals.{Verdict, faultless, fault, refusal, gate, then, resolve}
 use Rattle.terms.specs.Answers.{Answer, accepted, granted, idle, refused, unless}
 use Rattle.terms.specs.Start.{fresh, opening, noState, startVerdict, start, turnedDown}
 use Rattle.terms.specs.Asked as asked
-use Rattle.terms.proofs.Checks.{held-open}
 use Rattle.lead_parts.specs.Lead as leads
 use Rattle.terms.specs.TableResult.{TableResult, accept, refuse}
-use Rattle.table_bytes.specs.Reading.{Read, read, stop, next, fieldRead, rowsRead, placesRead, numbersRead, lastVerdict, settled, readTable}
+use Rattle.table_bytes.specs.Reading.{Read, read, stop, numbersRead, lastVerdict, settled, readTable}
 use Rattle.table_bytes.specs.Writing as writing
-use Rattle.table_bytes.proofs.Accepted.{next-open, read-same, field-open, rows-open}
+use Rattle.table_bytes.proofs.Opened.{numbers-open, rows-taken}
 use Rattle.rule.specs.declared.rule.Grant.{Grant}
 use Rattle.rule.specs.declared.rule.Grant.the-variants.{Nobody, Place}
 use Rattle.rule.specs.Calls.{Call, post, slot, grantOf, advanced, withPost, slotAnswer, done, ruleVerdict, outcome, called}
@@ -44,7 +42,7 @@ use Rattle.starts.specs.Starts.{begun}
 use Rattle.asking.specs.Look as look
 use Rattle.outcomes.specs.Outcomes.{refusalCode, answerCode, wrongLength}
 use Rattle.outcomes.specs.Places.{ofAnyCall, ToldOf}
-use Rattle.outcomes.proofs.Places.{known-told, code-apart, start-names-below, table-start-names-below, calls-name-below, runs-name-below, leads-name-below, figures-name-below, write-names-below, looks-name-below, standings-name-below}
+use Rattle.outcomes.proofs.Places.{known-any, code-apart, start-names-below, table-start-names-below, calls-name-below, runs-name-below, leads-name-below, figures-name-below, write-names-below, looks-name-below, standings-name-below}
 use Rattle.justrave.specs.Exported.{onState, Stated, posted, slotWords, Slotted, slotted, Ran, ran, leaves, started, startedOf, Figured, figuresTold, figured, lookTold, accountTold, stands, standingTold, leadTold, Led, led, Wrote, writeTold, wrote}
 use Rattle.on_words.specs.Claims.{Fits, Post-by-value, Start-by-value, Starts-agree, Slot-by-value, Run-by-value, Figures-by-value, Account-by-value, Standing-by-value, Lead-by-value, Write-by-value, lentCall, lastTold, In-a-row, Exactly-255, Lengths, Wrong-length, Broken, Broken-words, Start-shaped, Start-of-numbers-shaped, Refused, Clears, Post-refused, Slot-refused, Run-refused, Figures-refused, Account-refused, Standing-refused, Lead-refused, Write-refused, Start-refused, Start-of-numbers-refused}
 
@@ -169,26 +167,7 @@ start-of room t first rows = by (startVerdict room t first)
     by (fault r) = none-shaped room
 
 module _ (room : ℕ) where
-  -- a table that was read has as many rows as there is room for
-  places-long : (d n : ℕ) (bytes : List ℕ) (t : Table) (rest : List ℕ) → n ≤ room → placesRead room d n bytes ≡ read t rest
-      → length (t .requestors) ≡ room
-  unfolding placesRead tableOf
-  places-long d n bytes t rest few e =
-      let o = next-open (rowsRead n d 0 bytes) (λ rows l. read (tableOf room d n rows) l) t rest e in
-      let same = read-same (tableOf room d n (o .value)) t (o .left) rest (o .second) .0 in
-      let count = rows-open n d 0 bytes (o .value) (o .left) (o .first) .count in
-      let old = replicate room noRequestor in
-      let long = length-replicate room noRequestor in
-      ap (λ x. length (x .requestors)) (sym same) ∙ length-over (o .value) old (omega arith) ∙ long
-
-  numbers-long : (bytes : List ℕ) (t : Table) (rest : List ℕ) → numbersRead room bytes ≡ read t rest → length (t .requestors) ≡ room
-  unfolding numbersRead
-  numbers-long bytes t rest e =
-      let a = next-open (fieldRead denominatorBounds bytes) (λ d l. next (fieldRead (countBounds room) l) λ n m. placesRead room d n m) t rest e in
-      let b = next-open (fieldRead (countBounds room) (a .left)) (λ n m. placesRead room (a .value) n m) t rest (a .second) in
-      places-long (a .value) (b .value) (b .left) t rest
-      (held-open (countBounds room) (b .value) (field-open (countBounds room) (a .left) (b .value) (b .left) (b .first) .held) .1) (b .second)
-
+  -- a table that was read, or none, has as many rows as there is room for
   settled-long : (x : Read Table) → ((t : Table) (rest : List ℕ) → x ≡ read t rest → length (t .requestors) ≡ room)
       → length (settled room x .table .requestors) ≡ room
   unfolding settled tableOf writtenOver
@@ -201,7 +180,7 @@ module _ (room : ℕ) where
 
   pub read-long : (bytes : List ℕ) → length (readTable room bytes .table .requestors) ≡ room
   unfolding readTable
-  read-long bytes = settled-long (numbersRead room bytes) (numbers-long bytes)
+  read-long bytes = settled-long (numbersRead room bytes) (λ t rest e. rows-taken (numbers-open room bytes t rest e))
 
 pub start-shaped : Start-shaped
 unfolding begun
@@ -251,7 +230,7 @@ module _ {room outcome : ℕ} {Stands : Type 0} where
 pub written-ends : (room : ℕ) (t : Table) (buffer old : List ℕ)
     → let d = writeTold old (writing.writeTable room t buffer) in Ends room (d .outcome) ((d .buffer ≡ buffer) × (d .answer ≡ old))
 unfolding writing.writeTable
-written-ends room t buffer old = by (writing.writeVerdict room t (length buffer)) (λ r e. known-told (write-names-below room t buffer r e))
+written-ends room t buffer old = by (writing.writeVerdict room t (length buffer)) (λ r e. known-any (write-names-below room t buffer r e))
   where
     made : Verdict → writing.TableWritten
     made v =
@@ -281,11 +260,11 @@ module _ (room : ℕ) (s : State) where
 
   call-ends : (c : Call) → Ends room (answerCode (called room s c .answer)) (Stands (called room s c))
   unfolding called
-  call-ends c = outcome-ends (gate (refusal 23) (sound room s) (ruleVerdict s c)) c (λ r e. known-told (calls-name-below room s c r e))
+  call-ends c = outcome-ends (gate (refusal 23) (sound room s) (ruleVerdict s c)) c (λ r e. known-any (calls-name-below room s c r e))
 
   run-ends : (log : List ℕ) → Ends room (answerCode (run room s log .answer)) ((run room s log .state ≡ s) × (run room s log .log ≡ log))
   unfolding run
-  run-ends log = by (runVerdict room s (length log)) (λ r e. known-told (runs-name-below room s log r e))
+  run-ends log = by (runVerdict room s (length log)) (λ r e. known-any (runs-name-below room s log r e))
     where
       made : Verdict → Outcome
       made v =
@@ -298,28 +277,28 @@ module _ (room : ℕ) (s : State) where
       by (fault r) t = turned r (t r refl) refl (refl, refl)
 
   figures-ends : (p j : ℕ) (old : List ℕ) → let d = figuresTold old (asked.figures room s p j) in Ends room (d .outcome) (d .answer ≡ old)
-  figures-ends p j old = by (asked.figures room s p j) (λ r e. known-told (figures-name-below room s p j r e))
+  figures-ends p j old = by (asked.figures room s p j) (λ r e. known-any (figures-name-below room s p j r e))
     where
       by : (a : asked.FiguresAnswer) → ((r : Refusal) → a ≡ asked.refused r → ToldOf ofAnyCall room r) → Ends room (figuresTold old a .outcome) (figuresTold old a .answer ≡ old)
       by (asked.figured wait finish) t = went refl
       by (asked.refused r) t = turned r (t r refl) refl refl
 
   account-ends : (p : ℕ) (old : List ℕ) → let d = lookTold old (look.accountAsked room s p) in Ends room (d .outcome) (d .answer ≡ old)
-  account-ends p old = by (look.accountAsked room s p) (λ r e. known-told (looks-name-below room s p r e))
+  account-ends p old = by (look.accountAsked room s p) (λ r e. known-any (looks-name-below room s p r e))
     where
       by : (a : look.Told Account) → ((r : Refusal) → a ≡ look.refused r → ToldOf ofAnyCall room r) → Ends room (lookTold old a .outcome) (lookTold old a .answer ≡ old)
       by (look.told x) t = went refl
       by (look.refused r) t = turned r (t r refl) refl refl
 
   standing-ends : (old : List ℕ) → let d = stands old (look.standing room s) in Ends room (d .outcome) (d .answer ≡ old)
-  standing-ends old = by (look.standing room s) (λ r e. known-told (standings-name-below room s r e))
+  standing-ends old = by (look.standing room s) (λ r e. known-any (standings-name-below room s r e))
     where
       by : (a : look.Told look.Standing) → ((r : Refusal) → a ≡ look.refused r → ToldOf ofAnyCall room r) → Ends room (stands old a .outcome) (stands old a .answer ≡ old)
       by (look.told x) t = went refl
       by (look.refused r) t = turned r (t r refl) refl refl
 
   lead-ends : (p : ℕ) (log : List ℕ) (old : List ℤ) → let d = leadTold old (leads.leadAsked room s p log) in Ends room (d .outcome) (d .answer ≡ old)
-  lead-ends p log old = by (leads.leadAsked room s p log) (λ r e. known-told (leads-name-below room s p log r e))
+  lead-ends p log old = by (leads.leadAsked room s p log) (λ r e. known-any (leads-name-below room s p log r e))
     where
       by : (a : leads.LeadAnswer) → ((r : Refusal) → a ≡ leads.refused r → ToldOf ofAnyCall room r) → Ends room (leadTold old a .outcome) (leadTold old a .answer ≡ old)
       by (leads.lead x) t = went refl
@@ -414,7 +393,7 @@ write-refused most words buffer old =
 
 start-ends : (room : ℕ) (t : Table) (first : ℕ) → Ends room (answerCode (start room t first .answer)) (start room t first .state ≡ noState room)
 unfolding start
-start-ends room t first = by (startVerdict room t first) (λ r e. known-told (table-start-names-below room t first r e))
+start-ends room t first = by (startVerdict room t first) (λ r e. known-any (table-start-names-below room t first r e))
   where
     made : Verdict → Result State Answer
     made v = resolve v (record { state = opening t first; answer = accepted }) (turnedDown room)
@@ -426,7 +405,7 @@ start-ends room t first = by (startVerdict room t first) (λ r e. known-told (ta
 begun-ends : (room : ℕ) (bytes : List ℕ) (first : ℕ)
     → let d = begun room (readTable room bytes) first in Ends room (answerCode (d .answer)) (d .state ≡ noState room)
 unfolding begun
-begun-ends room bytes first = by (readTable room bytes .answer) (λ r e. known-told (start-names-below room bytes first r e))
+begun-ends room bytes first = by (readTable room bytes .answer) (λ r e. known-any (start-names-below room bytes first r e))
   where
     goes-on : Result State Answer
     goes-on = start room (readTable room bytes .table) first

@@ -15,7 +15,6 @@ use Rattle.lists.specs.Overwriting.{writtenOver}
 use Rattle.lists.specs.Runs.{Result, end}
 use Rattle.lists.proofs.Sums.{joined-append}
 use Rattle.lists.proofs.Tests.{cases, in-range-true, in-range}
-use Rattle.lists.proofs.Overwriting.{length-over}
 use Rattle.terms.specs.declared.refusals.Refusal.{Refusal}
 use Rattle.terms.specs.declared.place.Requestor.{Requestor}
 use Rattle.terms.specs.Table.{Table, noRequestor, rowNumbers, tableOf, denominatorBounds, countBounds, heldTo, rateSumVerdict, tableVerdict}
@@ -25,6 +24,7 @@ use Rattle.terms.specs.Answers.{Answer, accepted, granted, idle, refused, unles
 use Rattle.terms.specs.Figures.{admissionVerdict}
 use Rattle.terms.specs.Start.{fresh, opening, noState, startVerdict, start, turnedDown}
 use Rattle.terms.proofs.Checks.{held-open}
+use Rattle.terms.proofs.Tables.{table-length}
 use Rattle.terms.specs.TableResult.{TableResult, accept, refuse}
 use Rattle.table_bytes.specs.Reading.{Read, read, stop, next, numberRead, fieldRead, rowsRead, placesRead, numbersRead, lastVerdict, settled, readTable}
 use Rattle.table_bytes.proofs.Accepted.{field-open, rows-open}
@@ -113,9 +113,7 @@ module _ (room extra : ℕ) where
     same-last : (rest : List ℕ) → n ≤ room → lastVerdict (tableOf (room + extra) d n rows) rest ≡ lastVerdict (tableOf room d n rows) rest
     unfolding lastVerdict rateSumVerdict tableOf
     same-last rest fits =
-        let long : length (tableOf room d n rows .requestors) ≡ room =
-        length-over rows (replicate room noRequestor) (omega (arith, few, length-replicate room noRequestor)) ∙ length-replicate room noRequestor in
-        rw (ap (λ t. t .requestors) table-longer, same-rows room extra (tableOf room d n rows) long fits)
+        rw (ap (λ t. t .requestors) table-longer, same-rows room extra (tableOf room d n rows) (table-length room d n rows few) fits)
 
   places-longer : (d n : ℕ) (bytes : List ℕ) → n ≤ room → settled (room + extra) (placesRead (room + extra) d n bytes) ≡ read-longer (settled room (placesRead room d n bytes))
   unfolding settled placesRead next

@@ -6,16 +6,15 @@ use Prim.Native.Nat.{ℕ, _+_, _-_, _≤_}
 use native.Mathlib.Omega.{arith}
 use borrow.Author.Tests.{le-leb, eq-eqb}
 use lib.Dec.{eqb}
-use lib.ListN.{length, take, getD, replicate, length-replicate}
+use lib.ListN.{length, take, getD}
 use lib.Seq.{length-take-le}
 use Rattle.lists.proofs.Tests.{cases, true-false}
-use Rattle.lists.proofs.Overwriting.{length-over}
 use Rattle.terms.specs.Limits.{maxSlot}
-use Rattle.terms.specs.Table.{Table, noRequestor, requestorsOf, tableOf}
+use Rattle.terms.specs.Table.{Table, requestorsOf, tableOf}
 use Rattle.terms.specs.Refusals.{faultless, gate, then}
 use Rattle.terms.specs.Figures.{admissionVerdict}
 use Rattle.terms.proofs.Checks.{passed, then-open}
-use Rattle.terms.proofs.Tables.{table-rows, table-whole}
+use Rattle.terms.proofs.Tables.{table-length, table-rows, table-whole}
 use Rattle.terms.specs.Answers.{accepted}
 use Rattle.terms.specs.Start.{startVerdict, start}
 use Rattle.terms.specs.TableResult.{accept}
@@ -34,7 +33,7 @@ use Rattle.ordered_tables.specs.Bytes.{Listed}
 use Rattle.ordered_tables.proofs.Bytes.{read-is-ordered, as-many-bytes, wrote-open}
 use Rattle.ordered_tables.proofs.Promised.{ordered-line-is-promised}
 use Rattle.outcomes.specs.Outcomes.{wrongLength}
-use Rattle.outcomes.proofs.Places.{order-told, code-apart, orders-name-below}
+use Rattle.outcomes.proofs.Places.{order-any, code-apart, orders-name-below}
 use Rattle.justrave.specs.Exported.{Wrote, writeTold, started, ordered}
 use Rattle.on_words.specs.Ordered.{Order-refused, Order-255, Order-accepted, Ordered-bytes-begin}
 use Rattle.on_words.proofs.Claims.{Ends, turned, all-stands, never-255, written-ends}
@@ -51,7 +50,7 @@ module _ (most : ℕ) (bytes buffer old : List ℕ) where
   order-ends = by (orders.ends most bytes)
     where
       by : orders.Ends most bytes → Ends most (told .outcome) ((told .buffer ≡ buffer) × (told .answer ≡ old))
-      by (orders.turned-down why e) = turned why (order-told (orders-name-below most bytes buffer why (rw e))) (rw e) (rw e, rw e)
+      by (orders.turned-down why e) = turned why (order-any (orders-name-below most bytes buffer why (rw e))) (rw e) (rw e, rw e)
       by (orders.carried-out u e) = rw (e, ← orders.as-the-writer most bytes u buffer e) (written-ends most u buffer old)
 
 pub order-refused : Order-refused
@@ -91,7 +90,7 @@ written most bytes buffer old e = cases (eqb (length old) 1)
   where
     by : eqb (length old) 1 ≡ true → (a : writing.WriteAnswer) → orderBytes most bytes buffer .answer ≡ a → Written most bytes buffer old
     by q (writing.wrote k) f = record { count = k; answer = f; told-count = rw (q, f); same-buffer = rw q }
-    by q (writing.refused why) f = absurd (code-apart most why (order-told (orders-name-below most bytes buffer why f)) .0 (rw (q, f) at e))
+    by q (writing.refused why) f = absurd (code-apart most why (order-any (orders-name-below most bytes buffer why f)) .0 (rw (q, f) at e))
 
 -- ---- in less room
 
@@ -104,8 +103,7 @@ module _ (room extra : ℕ) (u : Table) (long : length (u .requestors) ≡ room 
   row-count = length-take-le (u .count) (u .requestors) (omega arith)
 
   line-long : length (line .requestors) ≡ room
-  unfolding tableOf
-  line-long = length-over (requestorsOf u) (replicate room noRequestor) (omega (arith, row-count, length-replicate room noRequestor)) ∙ length-replicate room noRequestor
+  line-long = table-length room (u .denominator) (u .count) (requestorsOf u) (omega (arith, row-count))
 
   line-rows : requestorsOf line ≡ requestorsOf u
   unfolding tableOf

@@ -32,7 +32,7 @@ use Rattle.ordered_bytes.proofs.Ordered as orders
 use Rattle.ordered_bytes.proofs.Ordered.{answered, read-ordered, ordered-none, Ends, turned-down, carried-out, ends}
 use Rattle.round_trip.proofs.RoundTrip as round-trip
 use Rattle.round_trip.proofs.RoundTrip.{bytes-read-back, table-bytes}
-use Rattle.outcomes.proofs.Places.{Numbers, small-table, small-numbers}
+use Rattle.outcomes.proofs.Places.{TableRefusals, refuses-table, refuses-numbers}
 use Rattle.ordered_tables.specs.Bytes.{Listed, Orderless, Unread-is-refused, Read-is-ordered, Fifteen-of-bytes, Ordered-is-listed, As-the-writer, As-many-bytes, Written-reads-in-order, Right-bytes-stay, Written-bytes-stay}
 
 -- ---- as many bytes in any order
@@ -101,7 +101,7 @@ as-many-bytes limit bytes t u old all l =
 abbrev NotFifteen : Refusal → Type 0
 NotFifteen why = why .number < 15
 
-not-fifteen : (limit : ℕ) → Numbers limit NotFifteen
+not-fifteen : (limit : ℕ) → TableRefusals limit NotFifteen
 not-fifteen limit = record {
   one = omega arith;
   two = omega arith;
@@ -125,7 +125,7 @@ module _ (limit : ℕ) (bytes : List ℕ) where
   of-the-table t whole f = by (listed.ends limit t)
     where
       by : listed.Ends limit t → Orderless limit bytes
-      by (listed.turned-down why bad e) = never-fifteen why (small-table limit NotFifteen (not-fifteen limit) t why bad) (same-why limit why (refusal 15) (sym e ∙ f))
+      by (listed.turned-down why bad e) = never-fifteen why (refuses-table limit NotFifteen (not-fifteen limit) t why bad) (same-why limit why (refusal 15) (sym e ∙ f))
       by (listed.not-found ok unfound e) = record {
         table = t;
         numbers = whole;
@@ -139,7 +139,7 @@ module _ (limit : ℕ) (bytes : List ℕ) where
   of-the-bytes f = by (numbersRead limit bytes) refl
     where
       by : (r : Read Table) → numbersRead limit bytes ≡ r → Orderless limit bytes
-      by (stop why) e = never-fifteen why (small-numbers limit NotFifteen (not-fifteen limit) bytes why e) (same-why limit why (refusal 15) (rw e at f))
+      by (stop why) e = never-fifteen why (refuses-numbers limit NotFifteen (not-fifteen limit) bytes why e) (same-why limit why (refusal 15) (rw e at f))
       by (read t []) e = of-the-table t e (read-ordered limit bytes t e ∙ f)
       by (read t (x ∷ rest)) e =
           let some-left = ne-eqb (suc (length rest)) 0 (λ z. omega arith) in

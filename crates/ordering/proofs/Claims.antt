@@ -4,12 +4,11 @@ use mathlib.Core.List.{List, [], append-nil}
 use mathlib.Core.Option.{Option, none, some}
 use Prim.Native.Nat.{ℕ, _≤_}
 use native.Mathlib.Omega.{arith}
-use lib.ListN.{length, drop, replicate, length-replicate}
+use lib.ListN.{length, drop, replicate}
 use lib.Seq.{length-take-le, take-length, drop-length, drop-at}
 use Rattle.lists.specs.Orders.{Permuted}
 use Rattle.lists.specs.Overwriting.{writtenOver}
 use Rattle.lists.proofs.Orders.{permuted-length}
-use Rattle.lists.proofs.Overwriting.{length-over}
 use Rattle.terms.specs.declared.refusals.Refusal.{Refusal}
 use Rattle.terms.specs.declared.place.Requestor.{Requestor}
 use Rattle.terms.specs.Table.{Table, noRequestor, requestorsOf, tableOf, tableVerdict}
@@ -20,7 +19,7 @@ use Rattle.terms.specs.TableResult.{TableResult, accept, refuse}
 use Rattle.terms.specs.State.{State}
 use Rattle.terms.specs.Start.{noState}
 use Rattle.terms.proofs.Checks.{faultless-fault, passed, fair, then-open}
-use Rattle.terms.proofs.Tables.{table-rows, clear-rows, table-whole, refuse-accept}
+use Rattle.terms.proofs.Tables.{table-length, table-rows, clear-rows, table-whole, refuse-accept}
 use Rattle.ordering.specs.Order.{orderOf, order}
 use Rattle.ordering.specs.InPlace.{inState, tableOnly}
 use Rattle.ordering.specs.Claims.{sameRequestor, Reordered, No-order-passes, Answer-reorders, Answer-passes, Right-order-stays, Answer-stays, Some-order-is-found, Fault-is-answered, Refused-is-all-0, Refused-means-none, Fifteen-exactly, Same-requestor-tells}
@@ -102,8 +101,7 @@ module _ (limit : ℕ) (t : Table) (shape : length (t .requestors) ≡ limit) (o
     found-passes = holds-admits limit u (checks-stand limit t u found-reorders ok) found-holds
 
     found-shape : length (u .requestors) ≡ limit
-    unfolding tableOf
-    found-shape = length-over rows (replicate limit noRequestor) (omega (arith, row-count, few, shape, length-replicate limit noRequestor)) ∙ length-replicate limit noRequestor
+    found-shape = table-length limit (t .denominator) (t .count) rows (omega (arith, row-count, few, shape))
 
 -- ---- where none is found
 

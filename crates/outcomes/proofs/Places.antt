@@ -39,7 +39,8 @@ use Rattle.rule.specs.declared.rule.Grant.{Grant}
 use Rattle.rule.specs.declared.rule.Grant.the-variants.{Nobody, Place}
 use Rattle.rule.specs.Calls.{Call, post, slot, grantOf, slotAnswer, done, ruleVerdict, outcome, called}
 use Rattle.rule.specs.Log.{Outcome, slotsState, slotsLog, slotsVerdict, runVerdict, run}
-use Rattle.table_bytes.proofs.Accepted.{stop-read, next-open, read-same, field-open}
+use Rattle.table_bytes.proofs.Accepted.{stop-read, field-open}
+use Rattle.table_bytes.proofs.Opened.{numbers-open}
 use Rattle.starts.specs.Starts.{begun}
 use Rattle.ordering.specs.Order.{found, orderOf}
 use Rattle.ordered_bytes.specs.OrderBytes.{listedVerdict, orderRead, orderBytes}
@@ -57,11 +58,11 @@ module _ {numbers : ℕ → Bool} where
   at-place limit n p e some h = record { number = e; names = some; origin = refl; place = h }
 
 -- a start's or that of a call on a state, and an ordering's, is any call's
-pub known-told : {limit : ℕ} {r : Refusal} → Told limit r → ToldOf ofAnyCall limit r
-known-told {limit} {r} t = record { number = rw (t .number); names = t .names; origin = t .origin; place = t .place }
+pub known-any : {limit : ℕ} {r : Refusal} → Told limit r → ToldOf ofAnyCall limit r
+known-any {limit} {r} t = record { number = rw (t .number); names = t .names; origin = t .origin; place = t .place }
 
-pub order-told : {limit : ℕ} {r : Refusal} → ToldOf ofAnOrder limit r → ToldOf ofAnyCall limit r
-order-told {limit} {r} t = record {
+pub order-any : {limit : ℕ} {r : Refusal} → ToldOf ofAnOrder limit r → ToldOf ofAnyCall limit r
+order-any {limit} {r} t = record {
   number = cases (known (r .number)) (λ on. rw on) (λ off. rw off (t .number));
   names = t .names;
   origin = t .origin;
@@ -108,38 +109,41 @@ code-apart limit r t = let a = any-range (r .number) (t .number) in ((λ e. absu
 -- ---- along checks
 
 -- what holds of the refusal, where there is one
-abbrev Small : (Refusal → Type 0) → Verdict → Type 0
-Small P v = (r : Refusal) → v ≡ fault r → P r
+abbrev Refuses : (Refusal → Type 0) → Verdict → Type 0
+Refuses P v = (r : Refusal) → v ≡ fault r → P r
 
 module _ (P : Refusal → Type 0) where
-  small-none : Small P faultless
-  small-none r e = let z : _≡_ {A = ℕ} 0 1 = cc in absurd (omega arith)
+  refuses-none : Refuses P faultless
+  refuses-none r e = let z : _≡_ {A = ℕ} 0 1 = cc in absurd (omega arith)
 
-  small-fault : (q : Refusal) → P q → Small P (fault q)
-  small-fault q b r e = let same : q ≡ r = cc in rw same at b
+  refuses-fault : (q : Refusal) → P q → Refuses P (fault q)
+  refuses-fault q b r e = let same : q ≡ r = cc in rw same at b
 
-  small-gate : (q : Refusal) (test : Bool) (rest : Verdict) → P q → Small P rest → Small P (gate q test rest)
+  refuses-gate : (q : Refusal) (test : Bool) (rest : Verdict) → P q → Refuses P rest → Refuses P (gate q test rest)
   unfolding gate
-  small-gate q true rest b s = s
-  small-gate q false rest b s = small-fault q b
+  refuses-gate q true rest b s = s
+  refuses-gate q false rest b s = refuses-fault q b
 
-  small-then : (v rest : Verdict) → Small P v → (v ≡ faultless → Small P rest) → Small P (then v rest)
+  refuses-then : (v rest : Verdict) → Refuses P v → (v ≡ faultless → Refuses P rest) → Refuses P (then v rest)
   unfolding then
-  small-then faultless rest s t = t refl
-  small-then (fault q) rest s t = s
+  refuses-then faultless rest s t = t refl
+  refuses-then (fault q) rest s t = s
 
-  small-held : (b : Bounds) (x : ℕ) → P (b .outside) → Small P (heldTo b x)
+  refuses-held : (b : Bounds) (x : ℕ) → P (b .outside) → Refuses P (heldTo b x)
   unfolding heldTo
-  small-held b x h = small-gate (b .outside) (inRange (b .low) (b .high) x) faultless h small-none
+  refuses-held b x h = refuses-gate (b .outside) (inRange (b .low) (b .high) x) faultless h refuses-none
 
-  small-each : (limit : ℕ) (check : ℕ → Requestor → Verdict) → ((p : ℕ) (x : Requestor) → p < limit → Small P (check p x))
-      → (p : ℕ) (rs : List Requestor) → p + length rs ≤ limit → Small P (eachPlace check p rs)
+  refuses-left : (rest : List ℕ) → P (refusal 10) → Refuses P (leftVerdict rest)
+  refuses-left rest h = refuses-gate (refusal 10) (eqb (length rest) 0) faultless h refuses-none
+
+  refuses-each : (limit : ℕ) (check : ℕ → Requestor → Verdict) → ((p : ℕ) (x : Requestor) → p < limit → Refuses P (check p x))
+      → (p : ℕ) (rs : List Requestor) → p + length rs ≤ limit → Refuses P (eachPlace check p rs)
   unfolding eachPlace
-  small-each limit check h p [] few = small-none
-  small-each limit check h p (x ∷ rs) few = small-then (check p x) (eachPlace check (suc p) rs) (h p x (omega arith)) (λ ok. small-each limit check h (suc p) rs (omega arith))
+  refuses-each limit check h p [] few = refuses-none
+  refuses-each limit check h p (x ∷ rs) few = refuses-then (check p x) (eachPlace check (suc p) rs) (h p x (omega arith)) (λ ok. refuses-each limit check h (suc p) rs (omega arith))
 
 -- it holds of 1 to 6, 8 and 9, at a place that there is room for
-pub record Numbers (limit : ℕ) (P : Refusal → Type 0) : Type 0 where
+pub record TableRefusals (limit : ℕ) (P : Refusal → Type 0) : Type 0 where
   pub one : P (refusal 1)
   pub two : P (refusal 2)
   pub three : (p : ℕ) → p < limit → P (refusalAt 3 p)
@@ -150,9 +154,9 @@ pub record Numbers (limit : ℕ) (P : Refusal → Type 0) : Type 0 where
   pub nine : P (refusal 9)
 
 -- so it is with numbers that these are among
-numbers-told : (numbers : ℕ → Bool) (limit : ℕ) → numbers 1 ≡ true → numbers 2 ≡ true → numbers 3 ≡ true → numbers 4 ≡ true → numbers 5 ≡ true → numbers 6 ≡ true
-    → numbers 8 ≡ true → numbers 9 ≡ true → Numbers limit (ToldOf numbers limit)
-numbers-told numbers limit one two three four five six eight nine = record {
+table-refusals : (numbers : ℕ → Bool) (limit : ℕ) → numbers 1 ≡ true → numbers 2 ≡ true → numbers 3 ≡ true → numbers 4 ≡ true → numbers 5 ≡ true → numbers 6 ≡ true
+    → numbers 8 ≡ true → numbers 9 ≡ true → TableRefusals limit (ToldOf numbers limit)
+table-refusals numbers limit one two three four five six eight nine = record {
   one = plain limit 1 one refl;
   two = plain limit 2 two refl;
   three = λ p h. at-place limit 3 p three refl h;
@@ -167,138 +171,130 @@ numbers-told numbers limit one two three four five six eight nine = record {
 few-rows : (limit n : ℕ) (rs : List Requestor) → n ≤ limit → 0 + length (take n rs) ≤ limit
 few-rows limit n rs h = omega (arith, length-take n rs)
 
-module _ (limit : ℕ) (P : Refusal → Type 0) (holds : Numbers limit P) where
-  small-row : (d p : ℕ) (x : Requestor) → p < limit → Small P (rowVerdict d p x)
+module _ (limit : ℕ) (P : Refusal → Type 0) (holds : TableRefusals limit P) where
+  refuses-row : (d p : ℕ) (x : Requestor) → p < limit → Refuses P (rowVerdict d p x)
   unfolding rowVerdict
-  small-row d p x h =
-      small-then P (heldTo (rateBounds d p) (x .rate)) _ (small-held P (rateBounds d p) (x .rate) (holds .three p h)) (λ a.
-      small-then P (heldTo (burstBounds d p) (x .burst)) _ (small-held P (burstBounds d p) (x .burst) (holds .four p h)) (λ b.
-      small-then P (heldTo (needBounds p) (x .need .0)) _ (small-held P (needBounds p) (x .need .0) (holds .five p h)) (λ c.
-      small-held P (withinBounds p) (x .within .0) (holds .five p h))))
+  refuses-row d p x h =
+      refuses-then P (heldTo (rateBounds d p) (x .rate)) _ (refuses-held P (rateBounds d p) (x .rate) (holds .three p h)) (λ a.
+      refuses-then P (heldTo (burstBounds d p) (x .burst)) _ (refuses-held P (burstBounds d p) (x .burst) (holds .four p h)) (λ b.
+      refuses-then P (heldTo (needBounds p) (x .need .0)) _ (refuses-held P (needBounds p) (x .need .0) (holds .five p h)) (λ c.
+      refuses-held P (withinBounds p) (x .within .0) (holds .five p h))))
 
-  small-sum : (t : Table) → Small P (rateSumVerdict t)
+  refuses-sum : (t : Table) → Refuses P (rateSumVerdict t)
   unfolding rateSumVerdict
-  small-sum t = small-gate P (refusal 6) (leb (total rate (requestorsOf t)) (t .denominator)) faultless (holds .six) (small-none P)
+  refuses-sum t = refuses-gate P (refusal 6) (leb (total rate (requestorsOf t)) (t .denominator)) faultless (holds .six) (refuses-none P)
 
-  pub small-table : (t : Table) → Small P (tableVerdict limit t)
+  pub refuses-table : (t : Table) → Refuses P (tableVerdict limit t)
   unfolding tableVerdict tailVerdict
-  small-table t =
-      small-then P (heldTo denominatorBounds (t .denominator)) _ (small-held P denominatorBounds (t .denominator) (holds .one)) (λ a.
-      small-then P (heldTo (countBounds limit) (t .count)) _ (small-held P (countBounds limit) (t .count) (holds .two)) (λ n.
-      small-then P (tailVerdict t) _ (small-gate P (refusal 2) (every requestorClear (drop (t .count) (t .requestors))) faultless (holds .two) (small-none P)) (λ b.
-      small-then P (eachPlace (rowVerdict (t .denominator)) 0 (requestorsOf t)) _
-      (small-each P limit (rowVerdict (t .denominator)) (small-row (t .denominator)) 0 (requestorsOf t) (few-rows limit (t .count) (t .requestors) (held-open (countBounds limit) (t .count) n .1)))
-      (λ c. small-sum t))))
+  refuses-table t =
+      refuses-then P (heldTo denominatorBounds (t .denominator)) _ (refuses-held P denominatorBounds (t .denominator) (holds .one)) (λ a.
+      refuses-then P (heldTo (countBounds limit) (t .count)) _ (refuses-held P (countBounds limit) (t .count) (holds .two)) (λ n.
+      refuses-then P (tailVerdict t) _ (refuses-gate P (refusal 2) (every requestorClear (drop (t .count) (t .requestors))) faultless (holds .two) (refuses-none P)) (λ b.
+      refuses-then P (eachPlace (rowVerdict (t .denominator)) 0 (requestorsOf t)) _
+      (refuses-each P limit (rowVerdict (t .denominator)) (refuses-row (t .denominator)) 0 (requestorsOf t) (few-rows limit (t .count) (t .requestors) (held-open (countBounds limit) (t .count) n .1)))
+      (λ c. refuses-sum t))))
 
 module _ (limit : ℕ) where
-  told-numbers : Numbers limit (Told limit)
-  told-numbers = numbers-told known limit refl refl refl refl refl refl refl refl
+  known-refusals : TableRefusals limit (Told limit)
+  known-refusals = table-refusals known limit refl refl refl refl refl refl refl refl
 
-  small-finishes : (t : Table) → t .count ≤ limit → Small (Told limit) (finishesVerdict t)
+  refuses-finishes : (t : Table) → t .count ≤ limit → Refuses (Told limit) (finishesVerdict t)
   unfolding finishVerdict
-  small-finishes t h =
-      small-each (Told limit) limit (finishVerdict (t .denominator) (requestorsOf t))
-      (λ p x few. small-gate (Told limit) (refusalAt 7 p) (leb (finish (t .denominator) (requestorsOf t) p (x .need .0)) (x .within .0)) faultless (at-place limit 7 p refl refl few) (small-none (Told limit)))
+  refuses-finishes t h =
+      refuses-each (Told limit) limit (finishVerdict (t .denominator) (requestorsOf t))
+      (λ p x few. refuses-gate (Told limit) (refusalAt 7 p) (leb (finish (t .denominator) (requestorsOf t) p (x .need .0)) (x .within .0)) faultless (at-place limit 7 p refl refl few) (refuses-none (Told limit)))
       0 (requestorsOf t) (few-rows limit (t .count) (t .requestors) h)
 
-  small-admission : (t : Table) → Small (Told limit) (admissionVerdict limit t)
+  refuses-admission : (t : Table) → Refuses (Told limit) (admissionVerdict limit t)
   unfolding admissionVerdict
-  small-admission t = small-then (Told limit) (tableVerdict limit t) (finishesVerdict t) (small-table limit (Told limit) told-numbers t) (λ ok. small-finishes t (fair limit t ok .count-most))
+  refuses-admission t = refuses-then (Told limit) (tableVerdict limit t) (finishesVerdict t) (refuses-table limit (Told limit) known-refusals t) (λ ok. refuses-finishes t (fair limit t ok .count-most))
 
 -- ---- along a reading
 
-abbrev SmallRead : {X : Type 0} → (Refusal → Type 0) → Read X → Type 0
-SmallRead P x = (r : Refusal) → x ≡ stop r → P r
+abbrev ReadRefuses : {X : Type 0} → (Refusal → Type 0) → Read X → Type 0
+ReadRefuses P x = (r : Refusal) → x ≡ stop r → P r
 
-module _ (limit : ℕ) (P : Refusal → Type 0) (holds : Numbers limit P) where
-  small-read : {X : Type 0} (x : X) (rest : List ℕ) → SmallRead P (read x rest)
-  small-read x rest r e = stop-read (sym e)
+module _ (limit : ℕ) (P : Refusal → Type 0) (holds : TableRefusals limit P) where
+  refuses-read : {X : Type 0} (x : X) (rest : List ℕ) → ReadRefuses P (read x rest)
+  refuses-read x rest r e = stop-read (sym e)
 
-  small-stop : {X : Type 0} (q : Refusal) → P q → SmallRead {X = X} P (stop q)
-  small-stop q b r e = let same : q ≡ r = cc in rw same at b
+  refuses-stop : {X : Type 0} (q : Refusal) → P q → ReadRefuses {X = X} P (stop q)
+  refuses-stop q b r e = let same : q ≡ r = cc in rw same at b
 
-  small-next : {X Y : Type 0} (x : Read X) (more : X → List ℕ → Read Y) → SmallRead P x → ((y : X) (rest : List ℕ) → x ≡ read y rest → SmallRead P (more y rest))
-      → SmallRead P (next x more)
+  refuses-next : {X Y : Type 0} (x : Read X) (more : X → List ℕ → Read Y) → ReadRefuses P x → ((y : X) (rest : List ℕ) → x ≡ read y rest → ReadRefuses P (more y rest))
+      → ReadRefuses P (next x more)
   unfolding next
-  small-next (read y rest) more s t = t y rest refl
-  small-next (stop q) more s t = small-stop q (s q refl)
+  refuses-next (read y rest) more s t = t y rest refl
+  refuses-next (stop q) more s t = refuses-stop q (s q refl)
 
-  small-number : (bytes : List ℕ) (x : number.Reading) → SmallRead P (readAs bytes x)
-  small-number bytes (Number x taken) = small-read x (drop taken bytes)
-  small-number bytes Ended = small-stop (refusal 8) (holds .eight)
-  small-number bytes Malformed = small-stop (refusal 9) (holds .nine)
+  refuses-number : (bytes : List ℕ) (x : number.Reading) → ReadRefuses P (readAs bytes x)
+  refuses-number bytes (Number x taken) = refuses-read x (drop taken bytes)
+  refuses-number bytes Ended = refuses-stop (refusal 8) (holds .eight)
+  refuses-number bytes Malformed = refuses-stop (refusal 9) (holds .nine)
 
-  small-resolve : {X : Type 0} (v : Verdict) (x : Read X) → SmallRead P x → Small P v → SmallRead P (resolve v x stop)
-  small-resolve faultless x s t = s
-  small-resolve (fault q) x s t = small-stop q (t q refl)
+  refuses-resolve : {X : Type 0} (v : Verdict) (x : Read X) → ReadRefuses P x → Refuses P v → ReadRefuses P (resolve v x stop)
+  refuses-resolve faultless x s t = s
+  refuses-resolve (fault q) x s t = refuses-stop q (t q refl)
 
-  small-field : (b : Bounds) (bytes : List ℕ) → P (b .outside) → SmallRead P (fieldRead b bytes)
+  refuses-field : (b : Bounds) (bytes : List ℕ) → P (b .outside) → ReadRefuses P (fieldRead b bytes)
   unfolding fieldRead
-  small-field b bytes h =
-      small-next (numberRead bytes) _ (small-number bytes (numberOf bytes)) (λ x rest e. small-resolve (heldTo b x) (read x rest) (small-read x rest) (small-held P b x h))
+  refuses-field b bytes h =
+      refuses-next (numberRead bytes) _ (refuses-number bytes (numberOf bytes)) (λ x rest e. refuses-resolve (heldTo b x) (read x rest) (refuses-read x rest) (refuses-held P b x h))
 
-  small-row-read : (d p : ℕ) (bytes : List ℕ) → p < limit → SmallRead P (rowRead d p bytes)
+  refuses-row-read : (d p : ℕ) (bytes : List ℕ) → p < limit → ReadRefuses P (rowRead d p bytes)
   unfolding rowRead
-  small-row-read d p bytes h =
-      small-next (fieldRead (rateBounds d p) bytes) _ (small-field (rateBounds d p) bytes (holds .three p h)) (λ n l e.
-      small-next (fieldRead (burstBounds d p) l) _ (small-field (burstBounds d p) l (holds .four p h)) (λ b m f.
-      small-next (fieldRead (needBounds p) m) _ (small-field (needBounds p) m (holds .five p h)) (λ j k g.
-      small-next (fieldRead (withinBounds p) k) _ (small-field (withinBounds p) k (holds .five p h)) (λ x o i. small-read _ o))))
+  refuses-row-read d p bytes h =
+      refuses-next (fieldRead (rateBounds d p) bytes) _ (refuses-field (rateBounds d p) bytes (holds .three p h)) (λ n l e.
+      refuses-next (fieldRead (burstBounds d p) l) _ (refuses-field (burstBounds d p) l (holds .four p h)) (λ b m f.
+      refuses-next (fieldRead (needBounds p) m) _ (refuses-field (needBounds p) m (holds .five p h)) (λ j k g.
+      refuses-next (fieldRead (withinBounds p) k) _ (refuses-field (withinBounds p) k (holds .five p h)) (λ x o i. refuses-read _ o))))
 
-  small-items : {X : Type 0} (item : ℕ → List ℕ → Read X) → ((p : ℕ) (bytes : List ℕ) → p < limit → SmallRead P (item p bytes))
-      → (items p : ℕ) (bytes : List ℕ) → p + items ≤ limit → SmallRead P (itemsRead item items p bytes)
+  refuses-items : {X : Type 0} (item : ℕ → List ℕ → Read X) → ((p : ℕ) (bytes : List ℕ) → p < limit → ReadRefuses P (item p bytes))
+      → (items p : ℕ) (bytes : List ℕ) → p + items ≤ limit → ReadRefuses P (itemsRead item items p bytes)
   unfolding itemsRead
-  small-items item h zero p bytes few = small-read [] bytes
-  small-items item h (suc items) p bytes few =
-      small-next (item p bytes) _ (h p bytes (omega arith)) (λ x l e.
-      small-next (itemsRead item items (suc p) l) _ (small-items item h items (suc p) l (omega arith)) (λ xs m f. small-read (x ∷ xs) m))
+  refuses-items item h zero p bytes few = refuses-read [] bytes
+  refuses-items item h (suc items) p bytes few =
+      refuses-next (item p bytes) _ (h p bytes (omega arith)) (λ x l e.
+      refuses-next (itemsRead item items (suc p) l) _ (refuses-items item h items (suc p) l (omega arith)) (λ xs m f. refuses-read (x ∷ xs) m))
 
-  small-places : (d n : ℕ) (bytes : List ℕ) → n ≤ limit → SmallRead P (placesRead limit d n bytes)
+  refuses-places : (d n : ℕ) (bytes : List ℕ) → n ≤ limit → ReadRefuses P (placesRead limit d n bytes)
   unfolding placesRead
-  small-places d n bytes h =
-      small-next (rowsRead n d 0 bytes) _ (small-items (rowRead d) (small-row-read d) n 0 bytes (omega arith)) (λ rows l e. small-read (tableOf limit d n rows) l)
+  refuses-places d n bytes h =
+      refuses-next (rowsRead n d 0 bytes) _ (refuses-items (rowRead d) (refuses-row-read d) n 0 bytes (omega arith)) (λ rows l e. refuses-read (tableOf limit d n rows) l)
 
-  pub small-numbers : (bytes : List ℕ) → SmallRead P (numbersRead limit bytes)
+  pub refuses-numbers : (bytes : List ℕ) → ReadRefuses P (numbersRead limit bytes)
   unfolding numbersRead
-  small-numbers bytes =
-      small-next (fieldRead denominatorBounds bytes) _ (small-field denominatorBounds bytes (holds .one)) (λ d l e.
-      small-next (fieldRead (countBounds limit) l) _ (small-field (countBounds limit) l (holds .two)) (λ n m f.
-      small-places d n m (held-open (countBounds limit) n (field-open (countBounds limit) l n m f .held) .1)))
+  refuses-numbers bytes =
+      refuses-next (fieldRead denominatorBounds bytes) _ (refuses-field denominatorBounds bytes (holds .one)) (λ d l e.
+      refuses-next (fieldRead (countBounds limit) l) _ (refuses-field (countBounds limit) l (holds .two)) (λ n m f.
+      refuses-places d n m (held-open (countBounds limit) n (field-open (countBounds limit) l n m f .held) .1)))
 
 module _ (limit : ℕ) where
   -- a table that was read has at most the largest N
-  few-places : (d n : ℕ) (bytes : List ℕ) (t : Table) (rest : List ℕ) → n ≤ limit → placesRead limit d n bytes ≡ read t rest → t .count ≤ limit
-  unfolding placesRead tableOf
-  few-places d n bytes t rest h e =
-      let o = next-open (rowsRead n d 0 bytes) (λ rows l. read (tableOf limit d n rows) l) t rest e in
-      let same = read-same (tableOf limit d n (o .value)) t (o .left) rest (o .second) .0 in
-      let count : n ≡ t .count = ap (λ x. x .count) same in
-      omega arith
-
   few-numbers : (bytes : List ℕ) (t : Table) (rest : List ℕ) → numbersRead limit bytes ≡ read t rest → t .count ≤ limit
-  unfolding numbersRead
+  unfolding tableOf
   few-numbers bytes t rest e =
-      let a = next-open (fieldRead denominatorBounds bytes) (λ d l. next (fieldRead (countBounds limit) l) λ n m. placesRead limit d n m) t rest e in
-      let b = next-open (fieldRead (countBounds limit) (a .left)) (λ n m. placesRead limit (a .value) n m) t rest (a .second) in
-      few-places (a .value) (b .value) (b .left) t rest (held-open (countBounds limit) (b .value) (field-open (countBounds limit) (a .left) (b .value) (b .left) (b .first) .held) .1) (b .second)
+      let taken = numbers-open limit bytes t rest e in
+      let count : taken .n ≡ t .count = ap (λ x. x .count) (taken .table) in
+      omega (arith, taken .few)
 
   -- what a reading answers
-  small-settled : (x : Read Table) → SmallRead (Told limit) x → ((t : Table) (rest : List ℕ) → x ≡ read t rest → t .count ≤ limit)
+  refuses-settled : (x : Read Table) → ReadRefuses (Told limit) x → ((t : Table) (rest : List ℕ) → x ≡ read t rest → t .count ≤ limit)
       → (r : Refusal) → settled limit x .answer ≡ refused r → Told limit r
   unfolding settled lastVerdict
-  small-settled (stop q) s few r e = let same : q ≡ r = cc in rw same at (s q refl)
-  small-settled (read t rest) s few r e =
-      let last = small-then (Told limit) (gate (refusal 10) (eqb (length rest) 0) faultless) _ (small-gate (Told limit) (refusal 10) (eqb (length rest) 0) faultless (plain limit 10 refl refl) (small-none (Told limit))) (λ a.
-      small-then (Told limit) (rateSumVerdict t) (finishesVerdict t) (small-sum limit (Told limit) (told-numbers limit) t) (λ b. small-finishes limit t (few t rest refl))) in
+  refuses-settled (stop q) s few r e = let same : q ≡ r = cc in rw same at (s q refl)
+  refuses-settled (read t rest) s few r e =
+      let last = refuses-then (Told limit) (leftVerdict rest) _ (refuses-left (Told limit) rest (plain limit 10 refl refl)) (λ a.
+      refuses-then (Told limit) (rateSumVerdict t) (finishesVerdict t) (refuses-sum limit (Told limit) (known-refusals limit) t) (λ b. refuses-finishes limit t (few t rest refl))) in
       by (lastVerdict t rest) last e
     where
-      by : (v : Verdict) → Small (Told limit) v → resolve {X = TableResult} v (accept t) (refuse limit) .answer ≡ refused r → Told limit r
+      by : (v : Verdict) → Refuses (Told limit) v → resolve {X = TableResult} v (accept t) (refuse limit) .answer ≡ refused r → Told limit r
       by faultless h f = let z : _≡_ {A = ℕ} 0 1 = cc in absurd (omega arith)
       by (fault q) h f = let same : q ≡ r = cc in rw same at (h q refl)
 
-  small-answer : (bytes : List ℕ) (r : Refusal) → readTable limit bytes .answer ≡ refused r → Told limit r
+  refuses-answer : (bytes : List ℕ) (r : Refusal) → readTable limit bytes .answer ≡ refused r → Told limit r
   unfolding readTable
-  small-answer bytes r e = small-settled (numbersRead limit bytes) (small-numbers limit (Told limit) (told-numbers limit) bytes) (few-numbers bytes) r e
+  refuses-answer bytes r e = refuses-settled (numbersRead limit bytes) (refuses-numbers limit (Told limit) (known-refusals limit) bytes) (few-numbers bytes) r e
 
 -- ---- the calls
 
@@ -306,9 +302,9 @@ pub table-start-names-below : Table-start-names-below
 unfolding start startVerdict
 table-start-names-below limit t first r e =
     by (startVerdict limit t first)
-    (small-then (Told limit) (admissionVerdict limit t) _ (small-admission limit t) (λ ok. small-gate (Told limit) (refusal 12) (leb first maxSlot) faultless (plain limit 12 refl refl) (small-none (Told limit)))) e
+    (refuses-then (Told limit) (admissionVerdict limit t) _ (refuses-admission limit t) (λ ok. refuses-gate (Told limit) (refusal 12) (leb first maxSlot) faultless (plain limit 12 refl refl) (refuses-none (Told limit)))) e
   where
-    by : (v : Verdict) → Small (Told limit) v → resolve {X = Result State Answer} v (record { state = opening t first; answer = accepted }) (λ q. record { state = noState limit; answer = refused q }) .answer ≡ refused r → Told limit r
+    by : (v : Verdict) → Refuses (Told limit) v → resolve {X = Result State Answer} v (record { state = opening t first; answer = accepted }) (λ q. record { state = noState limit; answer = refused q }) .answer ≡ refused r → Told limit r
     by faultless h f = let z : _≡_ {A = ℕ} 0 1 = cc in absurd (omega arith)
     by (fault q) h f = let same : q ≡ r = cc in rw same at (h q refl)
 
@@ -320,14 +316,14 @@ start-names-below limit bytes first r e = by (readTable limit bytes .answer) ref
     by accepted h f = table-start-names-below limit (readTable limit bytes .table) first r f
     by (granted stamp p) h f = table-start-names-below limit (readTable limit bytes .table) first r f
     by (idle stamp) h f = table-start-names-below limit (readTable limit bytes .table) first r f
-    by (refused q) h f = let same : q ≡ r = cc in small-answer limit bytes r (h ∙ ap refused same)
+    by (refused q) h f = let same : q ≡ r = cc in refuses-answer limit bytes r (h ∙ ap refused same)
 
-small-rule : (limit : ℕ) (s : State) (c : Call) → Small (Told limit) (ruleVerdict s c)
+refuses-rule : (limit : ℕ) (s : State) (c : Call) → Refuses (Told limit) (ruleVerdict s c)
 unfolding ruleVerdict
-small-rule limit s (post p count) =
-    small-gate (Told limit) (refusal 11) (ltb p (s .table .count)) _ (plain limit 11 refl refl)
-    (small-gate (Told limit) (refusal 21) (leb (backlog (accountAt p (s .accounts)) + count) maxBacklog) faultless (plain limit 21 refl refl) (small-none (Told limit)))
-small-rule limit s slot = small-gate (Told limit) (refusal 22) (ltb (s .slot .0) maxSlot) faultless (plain limit 22 refl refl) (small-none (Told limit))
+refuses-rule limit s (post p count) =
+    refuses-gate (Told limit) (refusal 11) (ltb p (s .table .count)) _ (plain limit 11 refl refl)
+    (refuses-gate (Told limit) (refusal 21) (leb (backlog (accountAt p (s .accounts)) + count) maxBacklog) faultless (plain limit 21 refl refl) (refuses-none (Told limit)))
+refuses-rule limit s slot = refuses-gate (Told limit) (refusal 22) (ltb (s .slot .0) maxSlot) faultless (plain limit 22 refl refl) (refuses-none (Told limit))
 
 outcome-fault : (v : Verdict) (s : State) (c : Call) (r : Refusal) → outcome v s c .answer ≡ refused r → v ≡ fault r
 unfolding done
@@ -343,86 +339,85 @@ pub calls-name-below : Calls-name-below
 unfolding called
 calls-name-below limit s c r e =
     let v = gate (refusal 23) (sound limit s) (ruleVerdict s c) in
-    small-gate (Told limit) (refusal 23) (sound limit s) (ruleVerdict s c) (plain limit 23 refl refl) (small-rule limit s c) r (outcome-fault v s c r e)
+    refuses-gate (Told limit) (refusal 23) (sound limit s) (ruleVerdict s c) (plain limit 23 refl refl) (refuses-rule limit s c) r (outcome-fault v s c r e)
 
-small-input : (limit bytes : ℕ) → Small (Told limit) (inputVerdict bytes)
+refuses-input : (limit bytes : ℕ) → Refuses (Told limit) (inputVerdict bytes)
 unfolding inputVerdict
-small-input limit bytes = small-gate (Told limit) (refusal 13) (leb bytes maxInput) faultless (plain limit 13 refl refl) (small-none (Told limit))
+refuses-input limit bytes = refuses-gate (Told limit) (refusal 13) (leb bytes maxInput) faultless (plain limit 13 refl refl) (refuses-none (Told limit))
 
 pub runs-name-below : Runs-name-below
 unfolding run runVerdict slotsVerdict
 runs-name-below limit s log r e =
     by (runVerdict limit s (length log))
-    (small-gate (Told limit) (refusal 23) (sound limit s) _ (plain limit 23 refl refl)
-    (small-then (Told limit) (inputVerdict (length log)) _ (small-input limit (length log)) (λ ok. small-gate (Told limit) (refusal 22) (leb (s .slot .0 + length log) maxSlot) faultless (plain limit 22 refl refl) (small-none (Told limit))))) e
+    (refuses-gate (Told limit) (refusal 23) (sound limit s) _ (plain limit 23 refl refl)
+    (refuses-then (Told limit) (inputVerdict (length log)) _ (refuses-input limit (length log)) (λ ok. refuses-gate (Told limit) (refusal 22) (leb (s .slot .0 + length log) maxSlot) faultless (plain limit 22 refl refl) (refuses-none (Told limit))))) e
   where
-    by : (v : Verdict) → Small (Told limit) v → resolve {X = Outcome} v (record { state = slotsState (length log) s; answer = accepted; log = slotsLog (length log) s }) (λ q. record { state = s; answer = refused q; log = log }) .answer ≡ refused r → Told limit r
+    by : (v : Verdict) → Refuses (Told limit) v → resolve {X = Outcome} v (record { state = slotsState (length log) s; answer = accepted; log = slotsLog (length log) s }) (λ q. record { state = s; answer = refused q; log = log }) .answer ≡ refused r → Told limit r
     by faultless h f = let z : _≡_ {A = ℕ} 0 1 = cc in absurd (omega arith)
     by (fault q) h f = let same : q ≡ r = cc in rw same at (h q refl)
 
-small-asked : (limit : ℕ) (s : State) (p : ℕ) → Small (Told limit) (placeVerdict limit s p)
+refuses-asked : (limit : ℕ) (s : State) (p : ℕ) → Refuses (Told limit) (placeVerdict limit s p)
 unfolding placeVerdict
-small-asked limit s p = small-gate (Told limit) (refusal 23) (sound limit s) _ (plain limit 23 refl refl) (small-gate (Told limit) (refusal 11) (ltb p (s .table .count)) faultless (plain limit 11 refl refl) (small-none (Told limit)))
+refuses-asked limit s p = refuses-gate (Told limit) (refusal 23) (sound limit s) _ (plain limit 23 refl refl) (refuses-gate (Told limit) (refusal 11) (ltb p (s .table .count)) faultless (plain limit 11 refl refl) (refuses-none (Told limit)))
 
 pub figures-name-below : Figures-name-below
 unfolding asked.figures asked.figuresVerdict
 figures-name-below limit s p j r e =
     by _ _ (asked.figuresVerdict limit s p j)
-    (small-then (Told limit) (placeVerdict limit s p) _ (small-asked limit s p) (λ ok. small-held (Told limit) (needBounds p) j (at-place limit 5 p refl refl (few ok)))) e
+    (refuses-then (Told limit) (placeVerdict limit s p) _ (refuses-asked limit s p) (λ ok. refuses-held (Told limit) (needBounds p) j (at-place limit 5 p refl refl (few ok)))) e
   where
     few : placeVerdict limit s p ≡ faultless → p < limit
     few ok = let a = place-open limit s p ok in omega (arith, a .1, fair limit (s .table) (sound-table limit s (a .0)) .count-most)
 
-    by : (x y : ℕ) (v : Verdict) → Small (Told limit) v → resolve v (asked.figured x y) asked.refused ≡ asked.refused r → Told limit r
+    by : (x y : ℕ) (v : Verdict) → Refuses (Told limit) v → resolve v (asked.figured x y) asked.refused ≡ asked.refused r → Told limit r
     by x y faultless h f = let z : _≡_ {A = ℕ} 0 1 = cc in absurd (omega arith)
     by x y (fault q) h f = let same : q ≡ r = cc in rw same at (h q refl)
 
 pub leads-name-below : Leads-name-below
 unfolding leads.leadAsked leads.leadVerdict
 leads-name-below limit s p log r e =
-    by _ (leads.leadVerdict limit s p (length log)) (small-then (Told limit) (placeVerdict limit s p) _ (small-asked limit s p) (λ ok. small-input limit (length log))) e
+    by _ (leads.leadVerdict limit s p (length log)) (refuses-then (Told limit) (placeVerdict limit s p) _ (refuses-asked limit s p) (λ ok. refuses-input limit (length log))) e
   where
-    by : (x : ℤ) (v : Verdict) → Small (Told limit) v → resolve v (leads.lead x) leads.refused ≡ leads.refused r → Told limit r
+    by : (x : ℤ) (v : Verdict) → Refuses (Told limit) v → resolve v (leads.lead x) leads.refused ≡ leads.refused r → Told limit r
     by x faultless h f = let z : _≡_ {A = ℕ} 0 1 = cc in absurd (omega arith)
     by x (fault q) h f = let same : q ≡ r = cc in rw same at (h q refl)
 
 -- a table's bytes, written or not by a verdict
 module _ (P : Refusal → Type 0) where
-  small-written : (v : Verdict) (t : Table) (buffer : List ℕ) → Small P v → (r : Refusal) → writing.writtenBy v t buffer .answer ≡ writing.refused r → P r
-  small-written faultless t buffer h r f = let z : _≡_ {A = ℕ} 0 1 = cc in absurd (omega arith)
-  small-written (fault q) t buffer h r f = let same : q ≡ r = cc in rw same at (h q refl)
+  refuses-written : (v : Verdict) (t : Table) (buffer : List ℕ) → Refuses P v → (r : Refusal) → writing.writtenBy v t buffer .answer ≡ writing.refused r → P r
+  refuses-written faultless t buffer h r f = let z : _≡_ {A = ℕ} 0 1 = cc in absurd (omega arith)
+  refuses-written (fault q) t buffer h r f = let same : q ≡ r = cc in rw same at (h q refl)
 
-  small-room : (t : Table) (room : ℕ) → P (refusal 14) → Small P (writing.roomVerdict t room)
-  small-room t room h = small-gate P (refusal 14) (leb (length (writing.tableBytes t)) room) faultless h (small-none P)
+  refuses-room : (t : Table) (room : ℕ) → P (refusal 14) → Refuses P (writing.roomVerdict t room)
+  refuses-room t room h = refuses-gate P (refusal 14) (leb (length (writing.tableBytes t)) room) faultless h (refuses-none P)
 
 pub write-names-below : Write-names-below
 unfolding writing.writeTable writing.writeVerdict
 write-names-below limit t buffer r e =
-    small-written (Told limit) (writing.writeVerdict limit t (length buffer)) t buffer
-    (small-then (Told limit) (admissionVerdict limit t) _ (small-admission limit t) (λ ok. small-room (Told limit) t (length buffer) (plain limit 14 refl refl))) r e
+    refuses-written (Told limit) (writing.writeVerdict limit t (length buffer)) t buffer
+    (refuses-then (Told limit) (admissionVerdict limit t) _ (refuses-admission limit t) (λ ok. refuses-room (Told limit) t (length buffer) (plain limit 14 refl refl))) r e
 
 -- an ordering: what is read of its bytes, 10, 6, 15, and then the writer's
 module _ (limit : ℕ) where
   abbrev OrderTold : Refusal → Type 0
   OrderTold r = ToldOf ofAnOrder limit r
 
-  order-numbers : Numbers limit OrderTold
-  order-numbers = numbers-told ofAnOrder limit refl refl refl refl refl refl refl refl
+  order-refusals : TableRefusals limit OrderTold
+  order-refusals = table-refusals ofAnOrder limit refl refl refl refl refl refl refl refl
 
-  small-found : (t : Table) (o : Option (List Requestor)) (r : Refusal) → found limit t o .answer ≡ refused r → OrderTold r
-  small-found t option.none r e = small-fault OrderTold (refusal 15) (plain limit 15 refl refl) r (let same : refusal 15 ≡ r = cc in ap fault same)
-  small-found t (option.some rows) r e = let z : _≡_ {A = ℕ} 0 1 = cc in absurd (omega arith)
+  refuses-found : (t : Table) (o : Option (List Requestor)) (r : Refusal) → found limit t o .answer ≡ refused r → OrderTold r
+  refuses-found t option.none r e = refuses-fault OrderTold (refusal 15) (plain limit 15 refl refl) r (let same : refusal 15 ≡ r = cc in ap fault same)
+  refuses-found t (option.some rows) r e = let z : _≡_ {A = ℕ} 0 1 = cc in absurd (omega arith)
 
-  small-order-read : (x : Read Table) → SmallRead OrderTold x → (r : Refusal) → orderRead limit x .answer ≡ refused r → OrderTold r
+  refuses-order-read : (x : Read Table) → ReadRefuses OrderTold x → (r : Refusal) → orderRead limit x .answer ≡ refused r → OrderTold r
   unfolding orderRead listedVerdict
-  small-order-read (stop q) s r e = let same : q ≡ r = cc in rw same at (s q refl)
-  small-order-read (read t rest) s r e =
+  refuses-order-read (stop q) s r e = let same : q ≡ r = cc in rw same at (s q refl)
+  refuses-order-read (read t rest) s r e =
       by (listedVerdict t rest)
-      (small-then OrderTold (leftVerdict rest) _ (small-gate OrderTold (refusal 10) (eqb (length rest) 0) faultless (plain limit 10 refl refl) (small-none OrderTold))
-      (λ a. small-sum limit OrderTold order-numbers t)) e
+      (refuses-then OrderTold (leftVerdict rest) _ (refuses-left OrderTold rest (plain limit 10 refl refl)) (λ a. refuses-sum limit OrderTold order-refusals t)) e
     where
-      by : (v : Verdict) → Small OrderTold v → resolve v (found limit t (orderOf t)) (refuse limit) .answer ≡ refused r → OrderTold r
-      by faultless h f = small-found t (orderOf t) r f
+      by : (v : Verdict) → Refuses OrderTold v → resolve v (found limit t (orderOf t)) (refuse limit) .answer ≡ refused r → OrderTold r
+      by faultless h f = refuses-found t (orderOf t) r f
       by (fault q) h f = let same : q ≡ r = cc in rw same at (h q refl)
 
 pub orders-name-below : Orders-name-below
@@ -437,8 +432,8 @@ orders-name-below limit bytes buffer r e = by (orderRead limit (numbersRead limi
 
     carried : goes-on .answer ≡ writing.refused r → ToldOf ofAnOrder limit r
     carried f =
-        small-written (OrderTold limit) (writing.roomVerdict in-order (length buffer)) in-order buffer
-        (small-room (OrderTold limit) in-order (length buffer) (plain limit 14 refl refl)) r f
+        refuses-written (OrderTold limit) (writing.roomVerdict in-order (length buffer)) in-order buffer
+        (refuses-room (OrderTold limit) in-order (length buffer) (plain limit 14 refl refl)) r f
 
     by : (a : Answer) → orderRead limit (numbersRead limit bytes) .answer ≡ a
         → unless a (λ q. record { answer = writing.refused q; buffer = buffer }) goes-on .answer ≡ writing.refused r → ToldOf ofAnOrder limit r
@@ -446,18 +441,18 @@ orders-name-below limit bytes buffer r e = by (orderRead limit (numbersRead limi
     by (granted stamp p) h f = carried f
     by (idle stamp) h f = carried f
     by (refused q) h f =
-        let same : q ≡ r = cc in small-order-read limit (numbersRead limit bytes) (small-numbers limit (OrderTold limit) (order-numbers limit) bytes) r (h ∙ ap refused same)
+        let same : q ≡ r = cc in refuses-order-read limit (numbersRead limit bytes) (refuses-numbers limit (OrderTold limit) (order-refusals limit) bytes) r (h ∙ ap refused same)
 
 -- a question that its checks turn down
-small-told : {X : Type 0} (limit : ℕ) (x : X) (v : Verdict) → Small (Told limit) v → (r : Refusal) → resolve v (look.told x) look.refused ≡ look.refused r → Told limit r
-small-told limit x faultless h r f = let z : _≡_ {A = ℕ} 0 1 = cc in absurd (omega arith)
-small-told limit x (fault q) h r f = let same : q ≡ r = cc in rw same at (h q refl)
+refuses-told : {X : Type 0} (limit : ℕ) (x : X) (v : Verdict) → Refuses (Told limit) v → (r : Refusal) → resolve v (look.told x) look.refused ≡ look.refused r → Told limit r
+refuses-told limit x faultless h r f = let z : _≡_ {A = ℕ} 0 1 = cc in absurd (omega arith)
+refuses-told limit x (fault q) h r f = let same : q ≡ r = cc in rw same at (h q refl)
 
 pub looks-name-below : Looks-name-below
 unfolding look.accountAsked
-looks-name-below limit s p r e = small-told limit _ (placeVerdict limit s p) (small-asked limit s p) r e
+looks-name-below limit s p r e = refuses-told limit _ (placeVerdict limit s p) (refuses-asked limit s p) r e
 
 pub standings-name-below : Standings-name-below
 unfolding look.standing
 standings-name-below limit s r e =
-    small-told limit _ (gate (refusal 23) (sound limit s) faultless) (small-gate (Told limit) (refusal 23) (sound limit s) faultless (plain limit 23 refl refl) (small-none (Told limit))) r e
+    refuses-told limit _ (gate (refusal 23) (sound limit s) faultless) (refuses-gate (Told limit) (refusal 23) (sound limit s) faultless (plain limit 23 refl refl) (refuses-none (Told limit))) r e

@@ -5,19 +5,17 @@ use mathlib.Core.List.{List, [], _∷_}
 use Prim.Native.Nat.{ℕ, suc, _≤_}
 use native.Mathlib.Omega.{arith}
 use borrow.Author.Tests.{eqb-true}
-use lib.Dec.{eqb}
-use lib.ListN.{length, length-replicate}
+use lib.ListN.{length}
 use Rattle.lists.specs.Sums.{joined}
-use Rattle.lists.proofs.Overwriting.{length-over}
 use Rattle.terms.specs.declared.refusals.Refusal.{Refusal}
 use Rattle.terms.specs.declared.place.Requestor.{Requestor}
-use Rattle.terms.specs.Table.{Table, noRequestor, rowNumbers, tableOf, denominatorBounds, countBounds, rateSumVerdict, tableVerdict}
-use Rattle.terms.specs.Refusals.{Verdict, faultless, fault, refusal, gate, then, resolve}
+use Rattle.terms.specs.Table.{Table, rowNumbers, tableOf, denominatorBounds, countBounds, rateSumVerdict, tableVerdict}
+use Rattle.terms.specs.Refusals.{Verdict, faultless, fault, gate, then, resolve}
 use Rattle.terms.specs.Figures.{finishesVerdict, admissionVerdict}
 use Rattle.terms.proofs.Checks.{gate-open, then-open, held-open, passed}
 use Rattle.terms.specs.TableResult.{TableResult, accept, refuse}
-use Rattle.table_bytes.specs.Reading.{Read, read, stop, placesRead, numbersRead, lastVerdict, settled, readTable}
-use Rattle.terms.proofs.Tables.{rate-sum-left, refuse-accept}
+use Rattle.table_bytes.specs.Reading.{Read, read, stop, placesRead, numbersRead, leftVerdict, lastVerdict, settled, readTable}
+use Rattle.terms.proofs.Tables.{table-length, rate-sum-left, refuse-accept}
 use Rattle.table_bytes.proofs.Accepted.{Spent, spent-more, field-open, field-spent, next-open, read-same, rows-open}
 
 -- what was taken from the bytes of a table whose numbers were read: each is within its limits, so that 6 is left of the table's checks
@@ -55,10 +53,8 @@ numbers-open limit bytes t rest whole =
 
 -- the table has a row for each place that there is room for
 pub rows-taken : {limit : ℕ} {bytes : List ℕ} {t : Table} {rest : List ℕ} → Taken limit bytes t rest → length (t .requestors) ≡ limit
-unfolding tableOf
 rows-taken {limit} taken =
-    sym (ap (λ x. length (x .requestors)) (taken .table))
-    ∙ length-over (taken .rows) _ (omega (arith, taken .count, taken .few, length-replicate limit noRequestor)) ∙ length-replicate limit noRequestor
+    sym (ap (λ x. length (x .requestors)) (taken .table)) ∙ table-length limit (taken .d) (taken .n) (taken .rows) (omega (arith, taken .count, taken .few))
 
 -- ---- an accepted reading
 
@@ -69,7 +65,7 @@ pub record Opened (limit : ℕ) (bytes : List ℕ) (t : Table) : Type 0 where
   pub admitted : admissionVerdict limit t ≡ faultless
 
 -- 10 passes: nothing is left; and so does what is tested after it
-pub nothing-left : (rest : List ℕ) (more : Verdict) → then (gate (refusal 10) (eqb (length rest) 0) faultless) more ≡ faultless → (rest ≡ []) × (more ≡ faultless)
+pub nothing-left : (rest : List ℕ) (more : Verdict) → then (leftVerdict rest) more ≡ faultless → (rest ≡ []) × (more ≡ faultless)
 nothing-left [] more e = (refl, then-open _ _ e .1)
 nothing-left (x ∷ rest) more e = let none = eqb-true (suc (length rest)) 0 (gate-open _ _ _ (then-open _ _ e .0) .0) in absurd (omega (arith, none))
 

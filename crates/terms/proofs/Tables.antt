@@ -6,11 +6,12 @@ use mathlib.Core.List.{List, [], _∷_, _++_}
 use Prim.Native.Nat.{ℕ, zero, suc, _≤_}
 use native.Mathlib.Omega.{arith}
 use borrow.Author.Tests.{eqb-true}
-use lib.ListN.{length, take, drop, replicate, take-append-drop}
+use lib.ListN.{length, take, drop, replicate, take-append-drop, length-replicate}
 use lib.Seq.{length-take-le, take-at, drop-at}
 use Rattle.lists.specs.Sums.{every}
 use Rattle.lists.specs.Overwriting.{writtenOver}
 use Rattle.lists.proofs.Tests.{and-true}
+use Rattle.lists.proofs.Overwriting.{length-over}
 use Rattle.terms.specs.declared.refusals.Refusal.{Refusal}
 use Rattle.terms.specs.declared.place.Requestor.{Requestor}
 use Rattle.terms.specs.Table.{Table, noRequestor, requestorClear, requestorsOf, tableOf, denominatorBounds, countBounds, heldTo, rowVerdict, eachPlace, tailVerdict, rateSumVerdict, tableVerdict}
@@ -32,6 +33,12 @@ passed-five : (limit : ℕ) (t : Table) → heldTo denominatorBounds (t .denomin
     → tableVerdict limit t ≡ rateSumVerdict t
 unfolding tableVerdict then
 passed-five limit t one two tail rows = rw (one, two, tail, rows)
+
+-- it has a row for each place that there is room for
+pub table-length : (limit d n : ℕ) (rows : List Requestor) → length rows ≤ limit → length (tableOf limit d n rows .requestors) ≡ limit
+unfolding tableOf
+table-length limit d n rows few =
+    length-over rows (replicate limit noRequestor) (omega (arith, length-replicate limit noRequestor)) ∙ length-replicate limit noRequestor
 
 module _ (limit d n : ℕ) (rows : List Requestor) (count : length rows ≡ n) where
   -- the rows of the table are those that were read
