@@ -32,8 +32,8 @@
  * The stack. The library follows the System V calling convention of x86-64. It finds the stack aligned to 16 bytes, as every caller
  * leaves it, and keeps it so; and it uses the red zone, the 128 bytes below the stack pointer. An interrupt handler that runs on the same
  * stack must skip these 128 bytes before it writes, as the handlers of a process's signals do. How many bytes of stack an accepted
- * call takes, its return address and the red zone included, measured with 16 places by tests/stack: an order 2,064, a start from bytes
- * 1,344, one from numbers 1,248, a write 736, figures 624, a run and a lead 128, a slot 112, a post, an account and a standing 96.
+ * call takes, its return address and the red zone included, measured with 16 places by tests/stack: an order 1,536, a start from bytes
+ * 704, one from numbers 608, a write 472, a run and a lead 128, a slot and figures 112, a post, an account and a standing 96.
  * JUSTRAVE_STACK is more than each.
  */
 #ifndef JUSTRAVE_H

@@ -1,7 +1,8 @@
 /*
  * How much stack each exported call uses, in bytes: each is made on a stack of its own that was painted before. The table has all 16
- * places, so that every loop and the recursive sums go as far as they can; the list that is put in order has as many, the worst way
- * round. What is counted begins where the caller's own frame ends, so that the return address and the red zone are in it.
+ * places and numbers of all lengths, so that every loop over places and the reading of a number go as far as they can; the list that is
+ * put in order has as many, the worst way round. What is counted begins where the caller's own frame ends, so that the return address and
+ * the red zone are in it.
  */
 #define _XOPEN_SOURCE 700
 #include <stdio.h>
@@ -27,10 +28,12 @@ static uint64_t state[WORDS];
 static uint64_t answer[2], length[1];
 static int64_t lead[1];
 
-/* Equal shares of a line of 16, each need with the slots of just one place and the lowest place's first: every search goes to its end. */
+/* Equal shares of a line of 16, each need but the first with the slots of just one place, and the lowest place's first: every search goes
+ * to its end. The first L is the largest, which takes as many bytes as a number can. */
 static const uint8_t listed[] = {
     16, PLACES,
-    1, 16, 1, 0x80, 2, 1, 16, 1, 0x80, 1, 1, 16, 1, 86, 1, 16, 1, 64,
+    1, 16, 1, 0x80, 0x80, 0x80, 0x80, 4,
+    1, 16, 1, 0x80, 1, 1, 16, 1, 86, 1, 16, 1, 64,
     1, 16, 1, 52,      1, 16, 1, 43,      1, 16, 1, 37, 1, 16, 1, 32,
     1, 16, 1, 29,      1, 16, 1, 26,      1, 16, 1, 24, 1, 16, 1, 22,
     1, 16, 1, 20,      1, 16, 1, 19,      1, 16, 1, 18, 1, 16, 1, 16,

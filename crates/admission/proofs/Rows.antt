@@ -5,10 +5,11 @@ use mathlib.Core.Bool.{true}
 use mathlib.Core.List.{List}
 use Prim.Native.Nat.{ℕ, _+_, _-_, _*_, _≤_, _<_}
 use native.Mathlib.Nat.{mul-le-mul-right}
+use native.Mathlib.Numerals.{add-one}
 use native.Mathlib.Omega.{arith}
 use lib.ListN.{length, take, getD}
 use Rattle.lists.specs.Sums.{total}
-use Rattle.lists.proofs.Sums.{total-take-pred}
+use Rattle.lists.proofs.Sums.{total-take-suc}
 use Rattle.terms.specs.declared.place.Requestor.{Requestor}
 use Rattle.terms.specs.Limits.{maxBurst, maxNeed, maxWithin, maxDenominator}
 use Rattle.terms.specs.Table.{noRequestor, requestorAt, requestorsOf}
@@ -55,11 +56,11 @@ module _ (words : List ℕ) where
   -- ---- sums
 
   -- of one more place
-  pub sum-next : (f : Requestor → ℕ) → f noRequestor ≡ 0 → (p : ℕ) → 1 ≤ p → wordCount p ≤ length words
-      → total f (take p (rowsIn words)) ≡ total f (take (p - 1) (rowsIn words)) + f (rowIn words (p - 1))
-  sum-next f none p some there =
-      total-take-pred f noRequestor none p (rowsIn words) some
-      ∙ ap (λ r. total f (take (p - 1) (rowsIn words)) + f r) (row-at (p - 1) (room-past (p - 1) (omega arith)))
+  pub sum-next : (f : Requestor → ℕ) → f noRequestor ≡ 0 → (p : ℕ) → wordCount (p + 1) ≤ length words
+      → total f (take (p + 1) (rowsIn words)) ≡ total f (take p (rowsIn words)) + f (rowIn words p)
+  sum-next f none p there =
+      rw (add-one p) (total-take-suc f noRequestor none p (rowsIn words))
+      ∙ ap (λ r. total f (take p (rowsIn words)) + f r) (row-at p (room-past p there))
 
 -- ---- a place below N of words that passed checks 1 to 6
 
@@ -70,7 +71,7 @@ pub record Placed (most : ℕ) (words : List ℕ) (p : ℕ) : Type 0 where
   pub own-need : rowIn words p .need .0 ≤ maxNeed
   pub own-within : rowIn words p .within .0 ≤ maxWithin
   pub rates : ratesAbove p (rowsIn words) + rowIn words p .rate ≤ tableIn words .denominator
-  pub bursts-most : burstsAbove p (rowsIn words) ≤ most * maxBurst
+  pub bursts : burstsAbove p (rowsIn words) + rowIn words p .burst ≤ most * maxBurst
   -- the rows of places 0 to N−1 are the same up to here
   pub same-rates : ratesAbove p (requestorsOf (tableIn words)) ≡ ratesAbove p (rowsIn words)
   pub same-bursts : burstsAbove p (requestorsOf (tableIn words)) ≡ burstsAbove p (rowsIn words)
@@ -88,7 +89,7 @@ placed most words p k h =
       own-need = rw row at (a .own-need);
       own-within = rw row at (a .own-within);
       rates = rw row at (a .rates);
-      bursts-most = omega (arith, a .bursts-most, mul-le-mul-right maxBurst (r .room-most));
+      bursts = omega (arith, rw row at (a .bursts), mul-le-mul-right maxBurst (r .room-most));
       same-rates = a .same-rates;
       same-bursts = a .same-bursts;
       same-row = a .same-row ∙ row;
@@ -97,13 +98,10 @@ placed most words p k h =
 -- the parts of its finish figure are within their limits, and the figure is the table's
 module _ (most : ℕ) (words : List ℕ) (p : ℕ) (f : Placed most words p) (d bursts rates n j : ℕ)
     (ed : d ≡ tableIn words .denominator) (eb : bursts ≡ burstsAbove p (rowsIn words)) (er : rates ≡ ratesAbove p (rowsIn words)) (en : n ≡ rowIn words p .rate) where
-  pub left-there : rates ≤ d
-  left-there = omega (arith, f .rates)
-
   pub parts : j ≤ maxNeed → Parts most d bursts (d - rates) n j
   parts few = record {
     denominator-most = omega (arith, f .denominator-most);
-    bursts-most = omega (arith, f .bursts-most);
+    bursts-most = omega (arith, f .bursts);
     left-least = omega (arith, f .rates, f .own-rate);
     left-most = omega (arith, f .denominator-most);
     rate-least = omega (arith, f .own-rate);

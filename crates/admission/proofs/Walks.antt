@@ -1,110 +1,121 @@
--- The walks over the rows of words: both sums from place 0 down, check 7 from the last place up, and the rows past place N−1. For any
--- room. Assumes nothing.
+-- The walks over the rows of words. From place 0 on: a sum above a place, a check of the rows of places 0 to N−1, and check 7, which does
+-- both; from place N on: that the rows past the table are clear. For any room. Assumes nothing.
 use mathlib.Core.Path.{_≡_, refl, ap, sym, _∙_}
 use mathlib.Core.Bool.{Bool, true, false}
 use mathlib.Core.List.{List}
-use Prim.Native.Nat.{ℕ, suc, _+_, _-_, _≤_, _<_}
+use Prim.Native.Nat.{ℕ, _+_, _≤_, _<_}
 use native.Mathlib.Omega.{arith}
-use lib.ListN.{length, take, drop, length-take}
-use lib.Seq.{drop-cons, getD-take}
+use lib.Dec.{leb}
+use lib.ListN.{length, take, drop}
 use Rattle.lists.specs.Sums.{total, every}
 use Rattle.lists.proofs.Sums.{total-take-rises}
-use Rattle.lists.proofs.Tests.{every-pass, every-stop, every-end}
+use Rattle.lists.proofs.Tests.{true-false, every-pass, every-stop, every-end}
+use Rattle.terms.specs.declared.refusals.Refusal.{Refusal}
 use Rattle.terms.specs.declared.place.Requestor.{Requestor}
 use Rattle.terms.specs.Table.{rate, burst, noRequestor, requestorClear, requestorAt, requestorsOf, eachPlace, tailVerdict}
-use Rattle.terms.specs.Refusals.{Verdict, faultless, fault, refusal, gate, then}
-use Rattle.terms.specs.Figures.{burstsAbove, ratesAbove, finishVerdict, finishesVerdict}
-use Rattle.terms.proofs.Places.{each-end}
+use Rattle.terms.specs.Refusals.{Verdict, faultless, fault, refusal, refusalAt, gate}
+use Rattle.terms.specs.State.{isFaultless}
+use Rattle.terms.specs.Figures.{finish, finishVerdict, finishesVerdict}
+use Rattle.terms.proofs.Checks.{gate-passed, gate-failed, fair}
+use Rattle.terms.proofs.Places.{each-pass, each-stop, each-end}
 use Rattle.layout.specs.Words.{wordCount, roomOf, rowIn}
-use Rattle.admission.specs.Checked.{tableIn, rowsIn}
-use Rattle.admission.proofs.Rows.{rows-length, row-at, sum-next}
+use Rattle.admission.specs.Checked.{tableIn, rowsIn, Checked}
+use Rattle.admission.proofs.Rows.{rows-length, row-at, sum-next, placed}
 
--- ---- both sums above a place
+-- ---- a sum above a place
 
--- of the rows above place q so far
-pub record Summed (words : List ℕ) (bursts rates q p : ℕ) : Type 0 where
-  pub below : q ≤ p
-  pub bursts-are : bursts ≡ burstsAbove q (rowsIn words)
-  pub rates-are : rates ≡ ratesAbove q (rowsIn words)
+-- of the rows above place q
+abbrev pub Summed : (Requestor → ℕ) → List ℕ → (sum q : ℕ) → Type 0
+Summed f words sum q = sum ≡ total f (take q (rowsIn words))
 
-module _ (words : List ℕ) (bursts rates q p : ℕ) (v : Summed words bursts rates q p) (h : q < p) (there : wordCount p ≤ length words) where
-  one-more : (f : Requestor → ℕ) → f noRequestor ≡ 0 → total f (take (q + 1) (rowsIn words)) ≡ total f (take q (rowsIn words)) + f (rowIn words q)
-  one-more f none = let back : q + 1 - 1 ≡ q = omega arith in rw back at (sum-next words f none (q + 1) (omega arith) (omega arith))
+pub summed-none : (f : Requestor → ℕ) (words : List ℕ) → Summed f words 0 0
+unfolding total
+summed-none f words = refl
 
-  pub summed-more : Summed words (bursts + rowIn words q .burst) (rates + rowIn words q .rate) (q + 1) p
-  summed-more = record {
-    below = omega arith;
-    bursts-are = omega (arith, v .bursts-are, one-more burst refl);
-    rates-are = omega (arith, v .rates-are, one-more rate refl);
-  }
+module _ (f : Requestor → ℕ) (none : f noRequestor ≡ 0) (words : List ℕ) (sum q : ℕ) (v : Summed f words sum q) (there : wordCount (q + 1) ≤ length words) where
+  pub summed-more : Summed f words (sum + f (rowIn words q)) (q + 1)
+  summed-more = omega (arith, v, sum-next words f none q there)
 
-  -- no sum is above the whole
-  pub bursts-below : bursts + rowIn words q .burst ≤ burstsAbove p (rowsIn words)
-  bursts-below = omega (arith, summed-more .bursts-are, total-take-rises burst (q + 1) p (rowsIn words) (omega arith))
+  -- on the way to place p no sum is above the whole
+  pub summed-at-most : (p : ℕ) → q < p → sum + f (rowIn words q) ≤ total f (take p (rowsIn words))
+  summed-at-most p h = omega (arith, summed-more, total-take-rises f (q + 1) p (rowsIn words) (omega arith))
 
-  pub rates-below : rates + rowIn words q .rate ≤ ratesAbove p (rowsIn words)
-  rates-below = omega (arith, summed-more .rates-are, total-take-rises rate (q + 1) p (rowsIn words) (omega arith))
+pub summed-end : (f : Requestor → ℕ) (words : List ℕ) (sum q p : ℕ) → Summed f words sum q → q ≤ p → p ≤ q → Summed f words sum p
+summed-end f words sum q p v below past =
+    let all : q ≡ p = omega arith in
+    v ∙ ap (λ k. total f (take k (rowsIn words))) all
 
--- ---- check 7, from the last place up
+-- ---- a check of the rows of places 0 to N−1
 
-module _ (words : List ℕ) where
-  abbrev check : ℕ → Requestor → Verdict
-  check = finishVerdict (tableIn words .denominator) (requestorsOf (tableIn words))
+-- the walk from place p on finds what the whole walk finds
+abbrev pub Walked : (ℕ → Requestor → Verdict) → List ℕ → (p : ℕ) → Type 0
+Walked check words p = eachPlace check 0 (requestorsOf (tableIn words)) ≡ eachPlace check p (drop p (requestorsOf (tableIn words)))
 
-  -- the places from p on have been looked at, and the sums are those above p
-  pub record Down (bursts rates : ℕ) (found : Verdict) (p : ℕ) : Type 0 where
-    pub below : p ≤ tableIn words .count
-    pub bursts-are : bursts ≡ burstsAbove p (rowsIn words)
-    pub rates-are : rates ≡ ratesAbove p (rowsIn words)
-    pub found-is : found ≡ eachPlace check p (drop p (requestorsOf (tableIn words)))
+module _ (check : ℕ → Requestor → Verdict) (words : List ℕ) (p : ℕ) (w : Walked check words p) where
+  module _ (few : tableIn words .count ≤ roomOf words) (h : p < tableIn words .count) {found : Verdict} (e : found ≡ check p (rowIn words p)) where
+    here : check p (requestorAt p (rowsIn words)) ≡ found
+    here = ap (check p) (row-at words p (omega arith)) ∙ sym e
 
-  pub down-none : (bursts rates n : ℕ) → n ≡ tableIn words .count → bursts ≡ burstsAbove n (rowsIn words) → rates ≡ ratesAbove n (rowsIn words) → Down bursts rates faultless n
-  down-none bursts rates n e b r = record {
-    below = omega arith;
-    bursts-are = b;
-    rates-are = r;
-    found-is = sym (each-end check (rowsIn words) (tableIn words .count) n (omega arith));
-  }
+    long : tableIn words .count ≤ length (rowsIn words)
+    long = omega (arith, rows-length words)
 
-  module _ (bursts rates : ℕ) (found : Verdict) (p : ℕ) (v : Down bursts rates found p) (some : 1 ≤ p) (few : tableIn words .count ≤ roomOf words) (there : wordCount p ≤ length words) where
-    bursts-less : bursts ≡ burstsAbove (p - 1) (rowsIn words) + rowIn words (p - 1) .burst
-    bursts-less = v .bursts-are ∙ sum-next words burst refl p some there
+    pub walk-pass : found ≡ faultless → Walked check words (p + 1)
+    walk-pass none = w ∙ each-pass check (rowsIn words) (tableIn words .count) p long h (here ∙ none)
 
-    rates-less : rates ≡ ratesAbove (p - 1) (rowsIn words) + rowIn words (p - 1) .rate
-    rates-less = v .rates-are ∙ sum-next words rate refl p some there
+    walk-stop : {r : Refusal} → found ≡ fault r → fault r ≡ eachPlace check 0 (requestorsOf (tableIn words))
+    walk-stop {r} some = sym (w ∙ each-stop check (rowsIn words) (tableIn words .count) p long h r (here ∙ some))
 
-    pub burst-inside : rowIn words (p - 1) .burst ≤ bursts
-    burst-inside = omega (arith, bursts-less)
+    -- the row that does not hold: its fault is the first
+    pub walk-break : isFaultless found ≡ false → found ≡ eachPlace check 0 (requestorsOf (tableIn words))
+    walk-break off = by found refl off
+      where
+        by : (v : Verdict) → found ≡ v → isFaultless v ≡ false → found ≡ eachPlace check 0 (requestorsOf (tableIn words))
+        by faultless f off = true-false off
+        by (fault r) f off = f ∙ walk-stop f
 
-    pub rate-inside : rowIn words (p - 1) .rate ≤ rates
-    rate-inside = omega (arith, rates-less)
+  pub walk-end : tableIn words .count ≤ p → faultless ≡ eachPlace check 0 (requestorsOf (tableIn words))
+  walk-end past = sym (w ∙ each-end check (rowsIn words) (tableIn words .count) p past)
 
-    pub bursts-next : bursts - rowIn words (p - 1) .burst ≡ burstsAbove (p - 1) (rowsIn words)
-    bursts-next = omega (arith, bursts-less)
+-- ---- check 7
 
-    pub rates-next : rates - rowIn words (p - 1) .rate ≡ ratesAbove (p - 1) (rowsIn words)
-    rates-next = omega (arith, rates-less)
+-- the test of the row at place p
+abbrev pub finishHolds : List ℕ → ℕ → Requestor → Bool
+finishHolds words p r = leb (finish (tableIn words .denominator) (requestorsOf (tableIn words)) p (r .need .0)) (r .within .0)
 
-    pub down-more : (here : Verdict) → here ≡ check (p - 1) (rowIn words (p - 1)) → Down (bursts - rowIn words (p - 1) .burst) (rates - rowIn words (p - 1) .rate) (then here found) (p - 1)
-    unfolding eachPlace
-    down-more here e =
-        let rs = requestorsOf (tableIn words) in
-        let inside : p - 1 < length rs = omega (arith, length-take (tableIn words .count) (rowsIn words), rows-length words, v .below) in
-        let row : requestorAt (p - 1) rs ≡ rowIn words (p - 1) =
-        getD-take (tableIn words .count) (rowsIn words) (p - 1) noRequestor (omega (arith, v .below)) ∙ row-at words (p - 1) (omega (arith, v .below)) in
-        let next : suc (p - 1) ≡ p = omega arith in
-        let found-next : found ≡ eachPlace check (suc (p - 1)) (drop (suc (p - 1)) rs) = rw next (v .found-is) in
-        record {
-          below = omega (arith, v .below);
-          bursts-are = bursts-next;
-          rates-are = rates-next;
-          found-is = rw (drop-cons rs (p - 1) noRequestor inside, row, e, found-next);
-        }
+abbrev finishCheck : List ℕ → ℕ → Requestor → Verdict
+finishCheck words = finishVerdict (tableIn words .denominator) (requestorsOf (tableIn words))
 
-  pub down-end : (bursts rates : ℕ) (found : Verdict) (p : ℕ) → Down bursts rates found p → p ≤ 0 → found ≡ finishesVerdict (tableIn words)
-  down-end bursts rates found p v none =
-      let zero-th : p ≡ 0 = omega arith in
-      v .found-is ∙ ap (λ q. eachPlace check q (drop q (requestorsOf (tableIn words)))) zero-th
+-- the sums above place p are carried along, and check 7 from there on finds what the whole of it finds
+pub record Carried (words : List ℕ) (bursts rates p : ℕ) : Type 0 where
+  pub bursts-are : Summed burst words bursts p
+  pub rates-are : Summed rate words rates p
+  pub walked : Walked (finishCheck words) words p
+
+pub carried-none : (words : List ℕ) → Carried words 0 0 0
+carried-none words = record { bursts-are = summed-none burst words; rates-are = summed-none rate words; walked = refl }
+
+module _ (words : List ℕ) (bursts rates p : ℕ) (v : Carried words bursts rates p) where
+  module _ (most : ℕ) (ok : Checked most words) (h : p < tableIn words .count) where
+    few : tableIn words .count ≤ roomOf words
+    few = fair _ _ (ok .passes) .count-most
+
+    there : wordCount (p + 1) ≤ length words
+    there = placed most words p ok h .there
+
+    pub carried-more : finishHolds words p (rowIn words p) ≡ true → Carried words (bursts + rowIn words p .burst) (rates + rowIn words p .rate) (p + 1)
+    unfolding finishVerdict
+    carried-more on = record {
+      bursts-are = summed-more burst refl words bursts p (v .bursts-are) there;
+      rates-are = summed-more rate refl words rates p (v .rates-are) there;
+      walked = walk-pass (finishCheck words) words p (v .walked) few h refl (gate-passed _ _ _ on);
+    }
+
+    pub carried-stop : finishHolds words p (rowIn words p) ≡ false → fault (refusalAt 7 p) ≡ finishesVerdict (tableIn words)
+    unfolding finishVerdict
+    carried-stop off = walk-stop (finishCheck words) words p (v .walked) few h refl (gate-failed _ _ _ off)
+
+  pub carried-end : tableIn words .count ≤ p → faultless ≡ finishesVerdict (tableIn words)
+  carried-end past = walk-end (finishCheck words) words p (v .walked) past
 
 -- ---- the rows past place N−1
 
@@ -117,15 +128,15 @@ module _ (words : List ℕ) (p : ℕ) (w : Cleared words p) where
     row-clear : requestorClear (requestorAt p (rowsIn words)) ≡ clear
     row-clear = ap requestorClear (row-at words p h) ∙ sym e
 
-    there : p < length (rowsIn words)
-    there = omega (arith, rows-length words)
+    inside : p < length (rowsIn words)
+    inside = omega (arith, rows-length words)
 
     pub tail-pass : clear ≡ true → Cleared words (p + 1)
-    tail-pass on = w ∙ every-pass requestorClear noRequestor (rowsIn words) p there (row-clear ∙ on)
+    tail-pass on = w ∙ every-pass requestorClear noRequestor (rowsIn words) p inside (row-clear ∙ on)
 
     pub tail-stop : clear ≡ false → fault (refusal 2) ≡ tailVerdict (tableIn words)
     unfolding tailVerdict gate
-    tail-stop off = rw (w ∙ every-stop requestorClear noRequestor (rowsIn words) p there (row-clear ∙ off))
+    tail-stop off = rw (w ∙ every-stop requestorClear noRequestor (rowsIn words) p inside (row-clear ∙ off))
 
   pub tail-end : roomOf words ≤ p → faultless ≡ tailVerdict (tableIn words)
   unfolding tailVerdict gate

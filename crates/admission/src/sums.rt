@@ -1,5 +1,5 @@
-// The sums above a place: each by itself by recursion, from a place to the one above it, and both at once by a loop. That they fit is asked
-// of the caller, who knows what the numbers are held to.
+// The sums above a place, each by a loop over the places above it. That they fit is asked of the caller, who knows what the numbers are
+// held to.
 use layout::words::burst;
 use layout::words::rate;
 ghost use mathlib.Core.Path.{_≡_};
@@ -14,12 +14,13 @@ pub fn bursts_above(words: &[u64], p: usize) -> u64
     requires { ⌜ (wordCount p ≤ length (now words)) × (burstsAbove p (rowsIn (now words)) < 2 ^ 64) ⌝ }
     ensures { λ r. ⌜ r ≡ burstsAbove p (rowsIn (now (words .entry))) ⌝ }
 {
-    if p == 0 {
-        0
-    } else {
-        let q = p - 1;
-        bursts_above(words, q) + burst(words, q)
+    let mut bursts: u64 = 0;
+    let mut q: usize = 0;
+    while q < p {
+        bursts = bursts + burst(words, q);
+        q = q + 1;
     }
+    bursts
 }
 
 // The sum of the rates above p; R of document 01 is D less this.
@@ -27,12 +28,13 @@ pub fn rates_above(words: &[u64], p: usize) -> u64
     requires { ⌜ (wordCount p ≤ length (now words)) × (ratesAbove p (rowsIn (now words)) < 2 ^ 64) ⌝ }
     ensures { λ r. ⌜ r ≡ ratesAbove p (rowsIn (now (words .entry))) ⌝ }
 {
-    if p == 0 {
-        0
-    } else {
-        let q = p - 1;
-        rates_above(words, q) + rate(words, q)
+    let mut rates: u64 = 0;
+    let mut q: usize = 0;
+    while q < p {
+        rates = rates + rate(words, q);
+        q = q + 1;
     }
+    rates
 }
 
 pub struct Sums {
@@ -45,16 +47,8 @@ pub fn sums_above(words: &[u64], p: usize) -> Sums
     requires { ⌜ (wordCount p ≤ length (now words)) × (burstsAbove p (rowsIn (now words)) < 2 ^ 64) × (ratesAbove p (rowsIn (now words)) < 2 ^ 64) ⌝ }
     ensures { λ s. ⌜ s ≡ record { bursts = burstsAbove p (rowsIn (now (words .entry))); rates = ratesAbove p (rowsIn (now (words .entry))) } ⌝ }
 {
-    let mut bursts: u64 = 0;
-    let mut rates: u64 = 0;
-    let mut q: usize = 0;
-    while q < p {
-        bursts = bursts + burst(words, q);
-        rates = rates + rate(words, q);
-        q = q + 1;
-    }
     Sums {
-        bursts: bursts,
-        rates: rates,
+        bursts: bursts_above(words, p),
+        rates: rates_above(words, p),
     }
 }

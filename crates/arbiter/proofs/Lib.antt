@@ -1,4 +1,4 @@
--- Laws that belong to no one function: the walk of the checks over the rows, and a table and a state by value.
-pub mod Walks
+-- Laws on each way out of checks 1 to 6, and on a table and a state by value.
+pub mod Verdicts
 pub mod ByValue
 pub mod Shapes

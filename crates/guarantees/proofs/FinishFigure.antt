@@ -53,7 +53,7 @@ unfolding finish
 figure-at-most limit t rows passes p j place few =
     let (left, own) = divisors limit t rows passes p place in
     let a = above limit t p rows passes place in
-    omega (arith, finish-most (t .denominator) (burstsAbove p (requestorsOf t)) _ _ j left own, a .same-bursts, a .bursts-most, mul-le-mul few (a .denominator-most))
+    omega (arith, finish-most (t .denominator) (burstsAbove p (requestorsOf t)) _ _ j left own, a .same-bursts, a .bursts, mul-le-mul few (a .denominator-most))
 
 pub figure-within-one-slot : Figure-within-one-slot
 unfolding finish formerFinish

@@ -1,7 +1,7 @@
 -- Laws on sums and joins over a list and over its first k elements. Assumes nothing.
 use mathlib.Core.Path.{_≡_, refl, ap, _∙_}
 use mathlib.Core.List.{List, [], _∷_, _++_, map, append-nil, append-assoc}
-use Prim.Native.Nat.{ℕ, zero, suc, _+_, _-_, _*_, _≤_, _<_}
+use Prim.Native.Nat.{ℕ, zero, suc, _+_, _*_, _≤_, _<_}
 use native.Mathlib.Numerals.{add-one}
 use native.Mathlib.Omega.{arith}
 use lib.ListN.{length, getD, take, drop, set, length-append}
@@ -65,10 +65,6 @@ module _ {A : Type 0} (f : A → ℕ) (z : A) where
     total-take-suc (suc k) [] = omega arith
     total-take-suc zero (x ∷ xs) = omega arith
     total-take-suc (suc k) (x ∷ xs) = omega (arith, total-take-suc k xs)
-
-    -- the same, from a sum over one element fewer
-    pub total-take-pred : (k : ℕ) (xs : List A) → 1 ≤ k → total f (take k xs) ≡ total f (take (k - 1) xs) + f (getD xs (k - 1) z)
-    total-take-pred k xs h = let back : suc (k - 1) ≡ k = omega arith in rw back at (total-take-suc (k - 1) xs)
 
 module _ {A B : Type 0} (f : A → List B) where
   pub joined-append : (xs ys : List A) → joined f (xs ++ ys) ≡ joined f xs ++ joined f ys

@@ -1,4 +1,5 @@
--- The sums above a place of a table that passes checks 1 to 6: they fit below D, and the place's own rate is left.
+-- The sums above a place of a table that passes checks 1 to 6: with the place's own rate the rates are at most D, and with its own burst the
+-- bursts still fit.
 -- Assumes nothing.
 use mathlib.Core.Path.{_≡_, refl, ap}
 use Prim.Native.Nat.{ℕ, suc, _+_, _*_, _≤_, _<_}
@@ -21,7 +22,7 @@ pub record Above (limit : ℕ) (t : Table) (p : ℕ) : Type 0 where
   pub own-need : getD (t .requestors) p noRequestor .need .0 ≤ maxNeed
   pub own-within : getD (t .requestors) p noRequestor .within .0 ≤ maxWithin
   pub rates : ratesAbove p (t .requestors) + getD (t .requestors) p noRequestor .rate ≤ t .denominator
-  pub bursts-most : burstsAbove p (t .requestors) ≤ limit * maxBurst
+  pub bursts : burstsAbove p (t .requestors) + getD (t .requestors) p noRequestor .burst ≤ limit * maxBurst
   -- the table's own rows and the rows of places 0 to N−1 are the same up to here
   pub same-rates : ratesAbove p (requestorsOf t) ≡ ratesAbove p (t .requestors)
   pub same-bursts : burstsAbove p (requestorsOf t) ≡ burstsAbove p (t .requestors)
@@ -42,7 +43,7 @@ above limit t p long ok h =
       own-need = rw row at (f .row p inside .need-most);
       own-within = rw row at (f .row p inside .within-most);
       rates = omega (arith, sum, total-take-drop rate (suc p) (requestorsOf t), f .rate-sum);
-      bursts-most = omega (arith, total-take-rises burst p (t .count) (t .requestors) (omega arith), bursts-fit limit t f);
+      bursts = omega (arith, total-take-suc burst noRequestor refl p (t .requestors), total-take-rises burst (suc p) (t .count) (t .requestors) (omega arith), bursts-fit limit t f);
       same-rates = ap (total rate) cut;
       same-bursts = ap (total burst) cut;
       same-row = row;

@@ -42,6 +42,10 @@ pub gate-passed : (r : Refusal) (test : Bool) (rest : Verdict) → test ≡ true
 unfolding gate
 gate-passed r test rest e = rw e
 
+pub gate-failed : (r : Refusal) (test : Bool) (rest : Verdict) → test ≡ false → gate r test rest ≡ fault r
+unfolding gate
+gate-failed r test rest e = rw e
+
 -- a fault that two series of checks find is found, whatever comes after them
 pub two-fault : (v w rest : Verdict) (r : Refusal) → then v w ≡ fault r → then v (then w rest) ≡ fault r
 unfolding then

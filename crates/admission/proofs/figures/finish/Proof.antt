@@ -32,7 +32,7 @@ sub-left c = omega (arith, facts (c .before .before .before .before) .rates, c .
 bursts-above-requires : tie.Need-bursts-above-requires
 bursts-above-requires c κs =
     let f = facts (c .before .before .before .before) in
-    (omega (arith, f .there), omega (arith, f .bursts-most))
+    (omega (arith, f .there), omega (arith, f .bursts))
 
 finish-of-requires : tie.Need-finish-of-requires
 finish-of-requires c κs =

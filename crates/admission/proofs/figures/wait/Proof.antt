@@ -31,12 +31,12 @@ sub-left c = omega (arith, facts (c .before .before .before) .rates, c .rates-ab
 bursts-above-requires : tie.Need-bursts-above-requires
 bursts-above-requires c κs =
     let f = facts (c .before .before .before) in
-    (omega (arith, f .there), omega (arith, f .bursts-most))
+    (omega (arith, f .there), omega (arith, f .bursts))
 
 rounded-up-requires : tie.Need-rounded-up-requires
 rounded-up-requires c κs =
     let f = facts (c .before .before .before .before) in
-    omega (arith, f .own-rate, f .rates, f .denominator-most, f .bursts-most, denominator (c .before .before), c .before .rates-above .ensures, c .bursts-above .ensures)
+    omega (arith, f .own-rate, f .rates, f .denominator-most, f .bursts, denominator (c .before .before), c .before .rates-above .ensures, c .bursts-above .ensures)
 
 returns : tie.Need-returns
 returns c =
@@ -44,7 +44,7 @@ returns c =
     let bursts = c .before .bursts-above .ensures ∙ sym (f .same-bursts) in
     let left = ap₂ (λ d r. d - r) (denominator (c .before .before .before)) (c .before .before .rates-above .ensures ∙ sym (f .same-rates)) in (
       c .rounded-up .ensures .0 ∙ ap₂ (λ b r. waitOf b r) bursts left,
-      omega (arith, f .own-rate, f .rates, f .denominator-most, f .bursts-most, denominator (c .before .before .before), c .before .before .rates-above .ensures, c .before .bursts-above .ensures, c .rounded-up .ensures .1),
+      omega (arith, f .own-rate, f .rates, f .denominator-most, f .bursts, denominator (c .before .before .before), c .before .before .rates-above .ensures, c .before .bursts-above .ensures, c .rounded-up .ensures .1),
     )
 
 pub wait-spec : {M : Type 1} → statement M

@@ -1,88 +1,90 @@
-use mathlib.Core.Path.{_≡_, ap, _∙_}
-use mathlib.Core.List.{List}
-use Prim.Native.Nat.{ℕ, _-_, _≤_}
-use native.Mathlib.Nat.{mul-le-mul-right}
+-- `admission::finishes::check_finishes` meets its contract. The loop's invariant: the sums above place p are carried along, and check 7
+-- from there on finds what the whole of it finds. Checks 1 to 6 keep the parts of each figure within their limits. Assumes nothing.
+use mathlib.Core.Path.{_≡_, sym, ap, _∙_}
+use Prim.Native.Nat.{_-_, _<_}
 use native.Mathlib.Omega.{arith}
-use borrow.Author.Needs.{needs}
-use lib.ListN.{length}
-use Rattle.terms.specs.Limits.{maxPlaces, maxBurst}
-use Rattle.terms.specs.Refusals.{verdictOf}
-use Rattle.terms.proofs.Checks.{fair, bursts-fit}
-use Rattle.layout.specs.Words.{wordCount, roomOf}
-use Rattle.layout.proofs.RoundTrip.{right}
-use Rattle.admission.specs.Checked.{tableIn, Checked}
-use Rattle.admission.proofs.Rows.{count-word, head-there, within-room}
-use Rattle.admission.proofs.Walks.{Down, down-none, burst-inside, rate-inside, bursts-next, rates-next, down-more, down-end}
+use borrow.Author.Tests.{not-true, not-false}
+use lib.Dec.{leb}
+use Rattle.terms.specs.Limits.{maxPlaces}
+use Rattle.layout.specs.Words.{rowIn}
+use Rattle.admission.specs.Checked.{tableIn}
+use Rattle.admission.proofs.Rows.{denominator-word, count-word, head-there, Placed, placed, parts, figure}
+use Rattle.admission.proofs.Walks.{finishHolds, Carried, carried-none, carried-more, carried-stop, carried-end}
 use Rattle.admission.proofs.finishes.check_finishes.Statement.{statement}
 use Rattle.admission.proofs.finishes.check_finishes.Tie as tie
 
--- what checks 1 to 6 say of N, and that the words above place p are there
-few : (words : List ℕ) → Checked maxPlaces words → tableIn words .count ≤ roomOf words
-few words ok = fair _ _ (ok .passes) .count-most
-
-there : (words : List ℕ) → Checked maxPlaces words → (p : ℕ) → p ≤ tableIn words .count → wordCount p ≤ length words
-there words ok p h = within-room words p (head-there words maxPlaces (ok .right)) (omega (arith, few words ok))
-
 abbrev Inv-loop : tie.InvT-loop
-Inv-loop words n bursts₀ rates₀ found₀ p₀ bursts rates found p = Down words bursts rates (verdictOf found) p
+Inv-loop words d n bursts₀ rates₀ p₀ bursts rates p = Carried words bursts rates p
 
 abbrev μ-loop : tie.MeasureT-loop
-μ-loop words n bursts₀ rates₀ found₀ p₀ bursts rates found p = p
+μ-loop words d n bursts₀ rates₀ p₀ bursts rates p = n - p
+
+-- a turn is made for a place of the table, with the table's D and the place's row
+below : (c : tie.In-loop Inv-loop μ-loop) → c .before .loop .p < tableIn (c .before .before .before .before .before .args .words .now) .count
+below c = omega (arith, c .loop-test .taken, c .before .before .count .ensures, count-word (c .before .before .before .before .before .args .words .now))
+
+facts : (c : tie.In-loop Inv-loop μ-loop) → Placed maxPlaces (c .before .before .before .before .before .args .words .now) (c .before .loop .p)
+facts c = placed maxPlaces _ _ (c .before .before .before .before .before .pre) (below c)
+
+denominator : (c : tie.In-loop Inv-loop μ-loop) → c .before .before .before .denominator .result ≡ tableIn (c .before .before .before .before .before .args .words .now) .denominator
+denominator c = c .before .before .before .denominator .ensures ∙ denominator-word (c .before .before .before .before .before .args .words .now)
+
+row-rate : (c : tie.After-requestor Inv-loop μ-loop) → c .requestor .result .rate ≡ rowIn (c .before .before .before .before .before .before .args .words .now) (c .before .before .loop .p) .rate
+row-rate c = ap (λ r. r .rate) (c .requestor .ensures)
+
+tested : (c : tie.After-finish-is-within Inv-loop μ-loop) → c .finish-is-within .result ≡ finishHolds (c .before .before .before .before .before .before .before .args .words .now) (c .before .before .before .loop .p) (rowIn (c .before .before .before .before .before .before .before .args .words .now) (c .before .before .before .loop .p))
+tested c =
+    let v = c .before .before .before .loop .inv in
+    let row = c .before .requestor .ensures in
+    let told = figure maxPlaces _ _ (facts (c .before .before)) _ _ _ _ _ (denominator (c .before .before)) (v .bursts-are) (v .rates-are) (row-rate (c .before)) in
+    c .finish-is-within .ensures ∙ ap (λ x. leb x (c .before .requestor .result .within .0)) told ∙ ap (finishHolds (c .before .before .before .before .before .before .before .args .words .now) (c .before .before .before .loop .p)) row
+
+denominator-requires : tie.Need-denominator-requires Inv-loop μ-loop
+denominator-requires c κs = head-there _ maxPlaces (c .before .pre .right)
 
 count-requires : tie.Need-count-requires Inv-loop μ-loop
-count-requires c κs = head-there _ maxPlaces (c .before .pre .right)
-
-bursts-above-requires : tie.Need-bursts-above-requires Inv-loop μ-loop
-bursts-above-requires c κs =
-    let w = c .before .before .args .words .now in let ok = c .before .before .pre in let few = fair _ _ (ok .passes) .count-most in
-    let n : c .count .result ≡ tableIn w .count = c .count .ensures ∙ count-word w in
-    rw n (within-room w (tableIn w .count) (head-there w maxPlaces (ok .right)) few, omega (arith, bursts-fit _ _ (fair _ _ (ok .passes)), mul-le-mul-right maxBurst (right maxPlaces w (ok .right) .room-most)))
-
-rates-above-requires : tie.Need-rates-above-requires Inv-loop μ-loop
-rates-above-requires c κs =
-    let w = c .before .before .before .args .words .now in let ok = c .before .before .before .pre in let few = fair _ _ (ok .passes) .count-most in
-    let n : c .before .count .result ≡ tableIn w .count = c .before .count .ensures ∙ count-word w in
-    rw n (within-room w (tableIn w .count) (head-there w maxPlaces (ok .right)) few, omega (arith, fair _ _ (ok .passes) .rate-sum, fair _ _ (ok .passes) .denominator-most))
+count-requires c κs = head-there _ maxPlaces (c .before .before .pre .right)
 
 loop-holds : tie.Need-loop-holds Inv-loop μ-loop
-loop-holds c = let w = c .before .before .before .before .args .words .now in down-none w _ _ _ (c .before .before .count .ensures ∙ count-word w) (c .before .bursts-above .ensures) (c .rates-above .ensures)
+loop-holds c = carried-none _
 
-sub-p : tie.Need-sub-p Inv-loop μ-loop
-sub-p c = omega (arith, c .loop-test .taken)
+requestor-requires : tie.Need-requestor-requires Inv-loop μ-loop
+requestor-requires c κs = facts c .there
 
-burst-requires : tie.Need-burst-requires Inv-loop μ-loop
-burst-requires c κs = omega (arith, c .loop-test .taken, there (c .before .before .before .before .before .before .args .words .now) (c .before .before .before .before .before .before .pre) (c .before .loop .p) (c .before .loop .inv .below))
+sub-finish-is-within : tie.Need-sub-finish-is-within Inv-loop μ-loop
+sub-finish-is-within c = omega (arith, facts (c .before) .rates, denominator (c .before), c .before .before .loop .inv .rates-are)
 
-sub-bursts : tie.Need-sub-bursts Inv-loop μ-loop
-sub-bursts c = omega (arith, burst-inside (c .before .before .before .before .before .before .before .args .words .now) (c .before .before .loop .bursts) (c .before .before .loop .rates) (verdictOf (c .before .before .loop .found)) (c .before .before .loop .p) (c .before .before .loop .inv) (c .before .loop-test .taken) (few (c .before .before .before .before .before .before .before .args .words .now) (c .before .before .before .before .before .before .before .pre)) (there (c .before .before .before .before .before .before .before .args .words .now) (c .before .before .before .before .before .before .before .pre) (c .before .before .loop .p) (c .before .before .loop .inv .below)), c .burst .ensures)
-
-rate-requires : tie.Need-rate-requires Inv-loop μ-loop
-rate-requires c κs = omega (arith, c .before .loop-test .taken, there (c .before .before .before .before .before .before .before .args .words .now) (c .before .before .before .before .before .before .before .pre) (c .before .before .loop .p) (c .before .before .loop .inv .below))
-
-sub-rates : tie.Need-sub-rates Inv-loop μ-loop
-sub-rates c = omega (arith, rate-inside (c .before .before .before .before .before .before .before .before .args .words .now) (c .before .before .before .loop .bursts) (c .before .before .before .loop .rates) (verdictOf (c .before .before .before .loop .found)) (c .before .before .before .loop .p) (c .before .before .before .loop .inv) (c .before .before .loop-test .taken) (few (c .before .before .before .before .before .before .before .before .args .words .now) (c .before .before .before .before .before .before .before .before .pre)) (there (c .before .before .before .before .before .before .before .before .args .words .now) (c .before .before .before .before .before .before .before .before .pre) (c .before .before .before .loop .p) (c .before .before .before .loop .inv .below)), c .rate .ensures)
-
-check-finish-requires : tie.Need-check-finish-requires Inv-loop μ-loop
-check-finish-requires c κs = (
-  c .before .before .before .before .before .before .before .before .pre,
-  omega (arith, c .before .before .before .loop .inv .below, c .before .before .loop-test .taken),
-  ap (λ x. c .before .before .before .loop .bursts - x) (c .before .burst .ensures) ∙ bursts-next (c .before .before .before .before .before .before .before .before .args .words .now) (c .before .before .before .loop .bursts) (c .before .before .before .loop .rates) (verdictOf (c .before .before .before .loop .found)) (c .before .before .before .loop .p) (c .before .before .before .loop .inv) (c .before .before .loop-test .taken) (few (c .before .before .before .before .before .before .before .before .args .words .now) (c .before .before .before .before .before .before .before .before .pre)) (there (c .before .before .before .before .before .before .before .before .args .words .now) (c .before .before .before .before .before .before .before .before .pre) (c .before .before .before .loop .p) (c .before .before .before .loop .inv .below)),
-  ap (λ x. c .before .before .before .loop .rates - x) (c .rate .ensures) ∙ rates-next (c .before .before .before .before .before .before .before .before .args .words .now) (c .before .before .before .loop .bursts) (c .before .before .before .loop .rates) (verdictOf (c .before .before .before .loop .found)) (c .before .before .before .loop .p) (c .before .before .before .loop .inv) (c .before .before .loop-test .taken) (few (c .before .before .before .before .before .before .before .before .args .words .now) (c .before .before .before .before .before .before .before .before .pre)) (there (c .before .before .before .before .before .before .before .before .args .words .now) (c .before .before .before .before .before .before .before .before .pre) (c .before .before .before .loop .p) (c .before .before .before .loop .inv .below)),
-)
-
-first-fault-requires : tie.Need-first-fault-requires Inv-loop μ-loop
-first-fault-requires c κs = search needs
-
-loop-less : tie.Need-loop-less Inv-loop μ-loop
-loop-less c = omega (arith, c .before .before .before .before .loop-test .taken)
-
-loop-again : tie.Need-loop-again Inv-loop μ-loop
-loop-again c =
-    let next = down-more (c .before .before .before .before .before .before .before .before .before .before .args .words .now) (c .before .before .before .before .before .loop .bursts) (c .before .before .before .before .before .loop .rates) (verdictOf (c .before .before .before .before .before .loop .found)) (c .before .before .before .before .before .loop .p) (c .before .before .before .before .before .loop .inv) (c .before .before .before .before .loop-test .taken) (few (c .before .before .before .before .before .before .before .before .before .before .args .words .now) (c .before .before .before .before .before .before .before .before .before .before .pre)) (there (c .before .before .before .before .before .before .before .before .before .before .args .words .now) (c .before .before .before .before .before .before .before .before .before .before .pre) (c .before .before .before .before .before .loop .p) (c .before .before .before .before .before .loop .inv .below)) _ (c .before .check-finish .ensures) in
-    rw (c .before .before .before .burst .ensures, c .before .before .rate .ensures, c .first-fault .ensures) next
+finish-is-within-requires : tie.Need-finish-is-within-requires Inv-loop μ-loop
+finish-is-within-requires c κs =
+    let v = c .before .before .loop .inv in
+    let f = facts (c .before) in (
+      parts maxPlaces _ _ f _ _ _ _ _ (denominator (c .before)) (v .bursts-are) (v .rates-are) (row-rate c)
+          (omega (arith, f .own-need, ap (λ r. r .need .0) (c .requestor .ensures))),
+      omega (arith, f .own-within, ap (λ r. r .within .0) (c .requestor .ensures)),
+    )
 
 returns : tie.Need-returns Inv-loop μ-loop
-returns c = down-end (c .before .before .before .before .before .before .args .words .now) _ _ _ _ (c .before .loop .inv) (c .loop-test .left)
+returns c = carried-stop _ _ _ _ (c .before .before .before .before .loop .inv) maxPlaces (c .before .before .before .before .before .before .before .before .pre) (below (c .before .before .before)) (sym (tested (c .before)) ∙ not-true _ (c .if1 .taken))
+
+add-bursts : tie.Need-add-bursts Inv-loop μ-loop
+add-bursts c = omega (arith, facts (c .before .before .before .before) .bursts, c .before .before .before .before .before .loop .inv .bursts-are, ap (λ r. r .burst) (c .before .before .before .requestor .ensures))
+
+add-rates : tie.Need-add-rates Inv-loop μ-loop
+add-rates c =
+    let f = facts (c .before .before .before .before .before) in
+    omega (arith, f .rates, f .denominator-most, c .before .before .before .before .before .before .loop .inv .rates-are, row-rate (c .before .before .before .before))
+
+add-p : tie.Need-add-p Inv-loop μ-loop
+add-p c = omega (arith, c .before .before .before .before .before .loop-test .taken)
+
+loop-less : tie.Need-loop-less Inv-loop μ-loop
+loop-less c = omega (arith, c .before .before .before .before .before .loop-test .taken)
+
+loop-again : tie.Need-loop-again Inv-loop μ-loop
+loop-again c = rw (c .before .before .before .before .requestor .ensures) (carried-more _ _ _ _ (c .before .before .before .before .before .before .loop .inv) maxPlaces (c .before .before .before .before .before .before .before .before .before .before .pre) (below (c .before .before .before .before .before)) (sym (tested (c .before .before .before)) ∙ not-false _ (c .before .before .if1 .left)))
+
+returns-2 : tie.Need-returns-2 Inv-loop μ-loop
+returns-2 c = let w = c .before .before .before .before .before .args .words .now in carried-end w _ _ _ (c .before .loop .inv) (omega (arith, c .loop-test .left, c .before .before .count .ensures, count-word w))
 
 pub check-finishes-spec : {M : Type 1} → statement M
 check-finishes-spec =
@@ -90,17 +92,16 @@ check-finishes-spec =
     (tie.spec
     Inv-loop
     μ-loop
+    denominator-requires
     count-requires
-    bursts-above-requires
-    rates-above-requires
     loop-holds
-    sub-p
-    burst-requires
-    sub-bursts
-    rate-requires
-    sub-rates
-    check-finish-requires
-    first-fault-requires
+    requestor-requires
+    sub-finish-is-within
+    finish-is-within-requires
+    returns
+    add-bursts
+    add-rates
+    add-p
     loop-less
     loop-again
-    returns)
+    returns-2)

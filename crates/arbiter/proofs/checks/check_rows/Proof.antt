@@ -1,3 +1,5 @@
+-- `arbiter::checks::check_rows` meets its contract. The loop's invariant: the check from place p on finds what the whole of it finds.
+-- Assumes nothing.
 use mathlib.Core.Path.{refl, sym, ap, ap₂, _∙_}
 use Prim.Native.Nat.{_+_, _-_, _≤_}
 use native.Mathlib.Omega.{arith}
@@ -9,7 +11,7 @@ use Rattle.terms.specs.State.{isFaultless}
 use Rattle.terms.proofs.Sound.{is-faultless-true}
 use Rattle.admission.specs.Checked.{tableIn}
 use Rattle.admission.proofs.Rows.{denominator-word, count-word, head-there, within-room}
-use Rattle.arbiter.proofs.Walks.{Walked, walk-pass, walk-break, walk-end}
+use Rattle.admission.proofs.Walks.{Walked, walk-pass, walk-break, walk-end}
 use Rattle.arbiter.proofs.checks.check_rows.Statement.{statement}
 use Rattle.arbiter.proofs.checks.check_rows.Tie as tie
 

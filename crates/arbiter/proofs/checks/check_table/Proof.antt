@@ -9,7 +9,7 @@ use Rattle.terms.specs.Table.{tailVerdict}
 use Rattle.layout.specs.Words.{roomOf}
 use Rattle.layout.proofs.RoundTrip.{right}
 use Rattle.admission.specs.Checked.{tableIn, limitsVerdict, rowsVerdict, Counted}
-use Rattle.arbiter.proofs.Walks.{limits-fault, limits-count, rows-fault, rows-pass, sum-most}
+use Rattle.arbiter.proofs.Verdicts.{limits-fault, limits-count, rows-fault, rows-pass, sum-most}
 use Rattle.arbiter.proofs.checks.check_table.Statement.{statement}
 use Rattle.arbiter.proofs.checks.check_table.Tie as tie
 
