@@ -40,6 +40,9 @@ static const uint8_t listed[] = {
     4, 40, 2, 10,
 };
 
+/* Who waits for whom: the handset shows a chlorine reading once there is one, and the log notes it once it was shown. */
+static const uint8_t follows[PLACES] = {JUSTRAVE_NOBODY, JUSTRAVE_NOBODY, JUSTRAVE_NOBODY, CHLORINE_PROBE, HANDSET};
+
 /* What falls due before which slot. A real unit has its interrupts here. */
 static const struct {
     uint64_t slot;
@@ -102,6 +105,18 @@ static void tell_handset(void)
     }
 }
 
+/* How long those take who wait for another one's grant: both figures count from the probe's post on. */
+static void tell_chain(void)
+{
+    uint64_t shown[JUSTRAVE_CHAIN_ANSWER], noted[JUSTRAVE_CHAIN_ANSWER];
+
+    if (!refused("chain", justrave_chain(state, STATE_WORDS, HANDSET, follows, PLACES, shown, JUSTRAVE_CHAIN_ANSWER))
+        && !refused("chain", justrave_chain(state, STATE_WORDS, SERVICE_LOG, follows, PLACES, noted, JUSTRAVE_CHAIN_ANSWER))) {
+        printf("chlorine probe: a reading is shown on the handset within %llu slots, and noted in the log within %llu\n",
+               (unsigned long long)shown[0], (unsigned long long)noted[0]);
+    }
+}
+
 /* Where the line stands, and what the service log has saved up and still has to send. */
 static void tell_standing(void)
 {
@@ -153,12 +168,17 @@ static void show_refusals(void)
 {
     uint64_t other[STATE_WORDS];
     uint32_t hasty[TABLE_NUMBERS];
+    uint8_t round[PLACES];
+    uint64_t figure[JUSTRAVE_CHAIN_ANSWER];
 
     refused("post", justrave_post(state, STATE_WORDS, PLACES, 1));
     refused("post", justrave_post(state, STATE_WORDS, PUMP, 65536));
     memcpy(hasty, table, sizeof hasty);
     hasty[5] = 9; /* the pump's two transfers within 9 slots: its finish figure is 10 */
     refused("start", justrave_start_numbers(hasty, TABLE_NUMBERS, 0, other, STATE_WORDS));
+    memcpy(round, follows, sizeof round);
+    round[CHLORINE_PROBE] = SERVICE_LOG; /* probe, log and handset would wait for one another for ever */
+    refused("chain", justrave_chain(state, STATE_WORDS, HANDSET, round, PLACES, figure, JUSTRAVE_CHAIN_ANSWER));
 }
 
 int main(void)
@@ -173,6 +193,7 @@ int main(void)
     tell_bytes();
     tell_order();
     tell_handset();
+    tell_chain();
     for (uint64_t slot = 0; slot < SLOTS && turn(slot); slot++) {
     }
     tell_standing();

@@ -33,8 +33,8 @@
  * leaves it, and keeps it so; and it uses the red zone, the 128 bytes below the stack pointer. An interrupt handler that runs on the same
  * stack must skip these 128 bytes before it writes, as the handlers of a process's signals do. How many bytes of stack an accepted
  * call takes, its return address and the red zone included, measured with 16 places by tests/stack: an order 1,536, a start from bytes
- * 704, one from numbers 608, a write 472, a run and a lead 128, a slot and figures 112, a post, an account and a standing 96.
- * JUSTRAVE_STACK is more than each.
+ * 704, one from numbers 608, a write 472, a chain 144, a run and a lead 128, a slot and figures 112, a post, an account and a
+ * standing 96. JUSTRAVE_STACK is more than each.
  */
 #ifndef JUSTRAVE_H
 #define JUSTRAVE_H
@@ -74,6 +74,7 @@ extern "C" {
 /* How many words, or for the lead how many signed numbers, each answer has. */
 #define JUSTRAVE_SLOT_ANSWER 2
 #define JUSTRAVE_FIGURES_ANSWER 2
+#define JUSTRAVE_CHAIN_ANSWER 1
 #define JUSTRAVE_LEAD_ANSWER 1
 #define JUSTRAVE_WRITE_ANSWER 1
 #define JUSTRAVE_ORDER_ANSWER 1
@@ -82,6 +83,9 @@ extern "C" {
 
 /* What a run writes into its log for a slot in which nobody was granted. */
 #define JUSTRAVE_LOG_IDLE 255
+
+/* The name, in a chain call, of a place that follows nobody. */
+#define JUSTRAVE_NOBODY 255
 
 /* The longest log, in bytes, and so the most slots of one run. */
 #define JUSTRAVE_MAX_LOG 65536
@@ -95,8 +99,8 @@ extern "C" {
 /*
  * An outcome, which every call returns but justrave_layout and justrave_state_words. 0 is accepted. Any other is a refusal: its number,
  * of documents 01 and 02 or 255, in the low 8 bits, and above them the place that the refusal names, plus 1, or 0 if it names none.
- * Refusals 3, 4, 5 and 7 always name a place, so an outcome is never equal to their names: compare JUSTRAVE_NUMBER(outcome) with a name,
- * and the outcome itself with nothing but JUSTRAVE_ACCEPTED.
+ * Refusals 3, 4, 5, 7 and 16 always name a place, so an outcome is never equal to their names: compare JUSTRAVE_NUMBER(outcome) with a
+ * name, and the outcome itself with nothing but JUSTRAVE_ACCEPTED.
  *
  * A refused call changes nothing: the state, the log, the buffer and the answer are what they were. Only a start that is refused
  * for its table or its slot number writes: it sets every word of the state to 0, and every call on such words but a start is refused 23.
@@ -116,11 +120,12 @@ enum {
     JUSTRAVE_ENDED = 8,        /* the bytes end inside or before a number */
     JUSTRAVE_MALFORMED = 9,    /* a number has more than 32 bits or five bytes, or is not in its shortest form */
     JUSTRAVE_BYTES_LEFT = 10,  /* bytes are left after the last place */
-    JUSTRAVE_NO_SUCH_PLACE = 11, /* the place is not below N */
+    JUSTRAVE_NO_SUCH_PLACE = 11, /* the place, or one that is followed, is not below N */
     JUSTRAVE_FIRST_SLOT = 12,  /* the first slot number is above JUSTRAVE_MAX_SLOT */
     JUSTRAVE_LOG_LENGTH = 13,  /* the log is longer than JUSTRAVE_MAX_LOG bytes */
     JUSTRAVE_BUFFER = 14,      /* the lent buffer is shorter than the table's bytes */
     JUSTRAVE_NO_ORDER = 15,    /* no order of the requestors passes */
+    JUSTRAVE_CIRCLE = 16,      /* places follow one another in a circle; names the lowest place that is on one */
 
     /* caused by the state */
     JUSTRAVE_BACKLOG = 21,     /* more than 65,535 transfers would wait at the place */
@@ -128,7 +133,7 @@ enum {
     JUSTRAVE_BROKEN_STATE = 23, /* the state breaks a rule: no accepted start and calls lead to it */
 
     /* of these calls themselves, caused by the input and tested before all else: a lent state is not as long as one with room for 1 to 16
-       places, a lent answer does not have its length, or a table given as numbers not the length for the state's room */
+       places, a lent answer does not have its length, or a table given as numbers, or names, not the length for the state's room */
     JUSTRAVE_LENGTH = 255
 };
 
@@ -210,6 +215,23 @@ uint64_t justrave_run(uint64_t *state, size_t state_length, uint8_t *log, size_t
  */
 uint64_t justrave_figures(const uint64_t *state, size_t state_length, size_t place, uint64_t transfers, uint64_t *answer,
                           size_t answer_length);
+
+/*
+ * For a device that waits for another one's grant, which may wait for a third, and so on. The names, one byte for each place that the
+ * words have room for, say whom each place follows: a place, or JUSTRAVE_NOBODY. A byte left out of a C initialiser is 0, which says that
+ * the place follows place 0 and not nobody. What stands past place N-1 makes no difference. The chain of a place is this place, the one
+ * that it follows, the one that that one follows, and so on to one that follows nobody, which is the chain's first link.
+ *
+ * Answers the chain figure, a number of slots: each link's finish figure for one transfer, all added up. Let one transfer be posted to the
+ * first link, and to each next link one between the grant to the link that it follows and the slot after it, each where nothing waits yet.
+ * Then the place is granted within as many slots after the first post as the figure says, whatever else is posted.
+ *
+ * Refused 255, 23, 11, 16. The last two look at the names of the whole table and not at the chain alone: 11 comes where the place or any
+ * that is followed is not below N, and 16 where some place is on a circle. A place that follows itself is on a circle too. A place that is
+ * on none and leads into one is not named.
+ */
+uint64_t justrave_chain(const uint64_t *state, size_t state_length, size_t place, const uint8_t *names, size_t names_length,
+                        uint64_t *answer, size_t answer_length);
 
 /*
  * Answers the lead of a place over a log: D times the log's bytes that are the place, less its rate times the log's length. Below

@@ -1,8 +1,8 @@
 /*
  * How much stack each exported call uses, in bytes: each is made on a stack of its own that was painted before. The table has all 16
  * places and numbers of all lengths, so that every loop over places and the reading of a number go as far as they can; the list that is
- * put in order has as many, the worst way round. What is counted begins where the caller's own frame ends, so that the return address and
- * the red zone are in it.
+ * put in order has as many, the worst way round, and the chain as many links. What is counted begins where the caller's own frame ends,
+ * so that the return address and the red zone are in it.
  */
 #define _XOPEN_SOURCE 700
 #include <stdio.h>
@@ -40,6 +40,9 @@ static const uint8_t listed[] = {
 };
 static uint8_t ordered[sizeof listed];
 
+/* Each place but the first follows the one above it, so that every walk goes as far as it can. */
+static const uint8_t names[PLACES] = {JUSTRAVE_NOBODY, 0, 1, 2, 3, 4, 5, 6, 7, 8, 9, 10, 11, 12, 13, 14};
+
 static uint64_t start_numbers(void)
 {
     return justrave_start_numbers(numbers, NUMBERS, 0, state, WORDS);
@@ -72,6 +75,10 @@ static uint64_t figures(void)
 {
     return justrave_figures(state, WORDS, PLACES - 1, 255, answer, 2);
 }
+static uint64_t chain(void)
+{
+    return justrave_chain(state, WORDS, PLACES - 1, names, sizeof names, answer, 1);
+}
 static uint64_t account(void)
 {
     return justrave_account(state, WORDS, PLACES - 1, answer, 2);
@@ -89,9 +96,9 @@ static const struct {
     const char *name;
     uint64_t (*make)(void);
 } calls[] = {
-    {"start_numbers", start_numbers}, {"write", write_bytes}, {"start", start}, {"order", order},
-    {"post", post},                   {"slot", slot},         {"run", run},     {"figures", figures},
-    {"lead", lead_of},                {"account", account},   {"standing", standing},
+    {"start_numbers", start_numbers}, {"write", write_bytes}, {"start", start},     {"order", order},
+    {"post", post},                   {"slot", slot},         {"run", run},         {"figures", figures},
+    {"chain", chain},                 {"lead", lead_of},      {"account", account}, {"standing", standing},
 };
 
 static uint64_t (*present)(void);

@@ -5,6 +5,11 @@ use core::{fmt, slice};
 use crate::table::MAX_PLACES;
 use crate::{sys, Refusal, Slots, Table, Transfers};
 
+/// The byte that says: it follows nobody.
+const NOBODY: u8 = 255;
+/// A place that no state has room for.
+const ABSENT: usize = 254;
+
 /// An arbiter's state: its table, its credits and backlogs, and the number of the slot that comes next.
 ///
 /// It owns its words, and they are plain data. Two arbiters are equal when all of this is equal, and a clone goes its own way.
@@ -325,6 +330,54 @@ impl<const ROOM: usize> Arbiter<ROOM> {
         Ok(Figures { wait, finish })
     }
 
+    /// How long it takes at most until a place is granted that waits for another one's grant, which may wait for a third, and so on.
+    /// `follows` says which place each place follows, if any; what it says past the table's last place makes no difference.
+    ///
+    /// The chain of a place is this place, the one that it follows, and so on to one that follows nobody. Let one transfer be posted to
+    /// that first link, and to each next link one between the grant to the link that it follows and the slot after it, each where nothing
+    /// waits yet. Then the place is granted within the chain figure, counted in slots from the first post on, whatever else is posted.
+    /// The figure is each link's finish figure for one transfer, all added up.
+    ///
+    /// # Errors
+    ///
+    /// 23; 11 where the place is not there, or any that is followed; 16 where places follow one another in a circle, with the lowest
+    /// place that is on one. A place that follows itself is on a circle too. Both look at all places of the table, not at the chain alone.
+    ///
+    /// ```
+    /// use justrave::{Arbiter, Slots};
+    ///
+    /// let line = Arbiter::<2>::start_in_room(&[4, 2, 1, 8, 1, 4, 1, 4, 1, 7], Slots(0))?;
+    /// assert_eq!(line.chain(0, &[None, None])?, Slots(4));
+    /// assert_eq!(line.chain(1, &[None, Some(0)])?, Slots(4 + 7));
+    ///
+    /// let refusal = line.chain(1, &[Some(1), Some(0)]).unwrap_err();
+    /// assert_eq!((refusal.number, refusal.place), (16, Some(0)));
+    /// # Ok::<(), justrave::Refusal>(())
+    /// ```
+    ///
+    /// There is one entry for each place that there is room for, and no call with more or fewer:
+    ///
+    /// ```compile_fail,E0308
+    /// # let line = justrave::Arbiter::<2>::start_in_room(&[4, 1, 1, 8, 1, 4], justrave::Slots(0)).unwrap();
+    /// let figure = line.chain(0, &[None]);
+    /// ```
+    pub fn chain(&self, place: usize, follows: &[Option<usize>; ROOM]) -> Result<Slots, Refusal> {
+        let (words, names, mut answer) = (self.words(), follows.map(name_of), [0; 1]);
+        // SAFETY: all three have their lengths behind them; the words are only read, and names and answer are locals beside them.
+        let outcome = unsafe {
+            sys::justrave_chain(
+                words.as_ptr(),
+                words.len(),
+                place,
+                names.as_ptr(),
+                names.len(),
+                answer.as_mut_ptr(),
+                answer.len(),
+            )
+        };
+        Refusal::check(outcome).map(|()| Slots(answer[0]))
+    }
+
     /// How far a place is ahead of its rate over a log: D times its grants, less its rate times the log's length. Below 0 it has
     /// fallen behind. The log need not be this arbiter's; bytes that are no place of the table count for nobody.
     ///
@@ -482,6 +535,12 @@ impl<const ROOM: usize> Arbiter<ROOM> {
         made.words_mut().copy_from_slice(words);
         Some(made)
     }
+}
+
+/// Who is followed, as the library takes it. Every place from [`ABSENT`] on is absent alike: it is refused 11, and place 255, which would
+/// have nobody's byte, is never taken for nobody.
+fn name_of(followed: Option<usize>) -> u8 {
+    followed.map_or(NOBODY, |place| place.min(ABSENT) as u8)
 }
 
 /// The words mean nothing to a reader.

@@ -3,7 +3,8 @@
 //! Time on the line is cut into **slots**, and a slot carries at most one **transfer**. The arbiter says, slot by slot, whose
 //! transfer goes next. Each requestor has a place, 0 the most urgent, with a rate, a burst and a need; the table of them is
 //! given as bytes or as numbers ([`Table`]). What the arbiter answers is proved; this crate is the safe door to it for Rust, and holds no rule of its own.
-//! Where nobody knows which requestor should have which place, [`order()`] finds places for all of them.
+//! Where nobody knows which requestor should have which place, [`order()`] finds places for all of them. Where one waits for
+//! another's grant, [`Arbiter::chain`] tells how long that takes at most.
 //!
 //! ```
 //! use justrave::{Arbiter, SlotAnswer, Slots, Transfers};

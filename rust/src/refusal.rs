@@ -5,7 +5,7 @@ use core::fmt;
 /// What caused a refusal.
 #[derive(Clone, Copy, Debug, PartialEq, Eq, Hash)]
 pub enum Cause {
-    /// What the call was given: a table's bytes or numbers, a slot number, a place, a count, a log or a buffer.
+    /// What the call was given: a table's bytes or numbers, a slot number, a place, a count, who follows whom, a log or a buffer.
     Input,
     /// The state that the call was made on.
     State,
@@ -25,10 +25,10 @@ pub enum Cause {
 /// ```
 #[derive(Clone, Copy, Debug, PartialEq, Eq, Hash)]
 pub struct Refusal {
-    /// The number that documents 01 and 02 give it: 1 to 15 or 21 to 23. 255 says that the library that was linked has states or
+    /// The number that documents 01 and 02 give it: 1 to 16 or 21 to 23. 255 says that the library that was linked has states or
     /// tables of another length than this crate was written for.
     pub number: u8,
-    /// The place at fault, where the number names one (3, 4, 5, 7).
+    /// The place at fault, where the number names one (3, 4, 5, 7, 16).
     pub place: Option<usize>,
     /// What caused it.
     pub cause: Cause,
@@ -62,6 +62,7 @@ impl Refusal {
             13 => "the log is too long",
             14 => "the buffer is too short for the table's bytes",
             15 => "no order of the requestors passes",
+            16 => "places follow one another in a circle",
             21 => "the backlog would pass its limit",
             22 => "the slot number would pass its limit",
             23 => "the state breaks a rule",

@@ -51,6 +51,16 @@ extern "C" {
         answer_length: usize,
     ) -> u64;
 
+    pub fn justrave_chain(
+        state: *const u64,
+        state_length: usize,
+        place: usize,
+        names: *const u8,
+        names_length: usize,
+        answer: *mut u64,
+        answer_length: usize,
+    ) -> u64;
+
     pub fn justrave_lead(
         state: *const u64,
         state_length: usize,

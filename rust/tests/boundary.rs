@@ -49,6 +49,14 @@ fn figures(state: &[u64], place: usize, j: u64, answer: &mut [u64]) -> u64 {
     unsafe { sys::justrave_figures(state.as_ptr(), state.len(), place, j, answer.as_mut_ptr(), answer.len()) }
 }
 
+fn chain(state: &[u64], place: usize, names: &[u8], answer: &mut [u64]) -> u64 {
+    let answer_length = answer.len();
+    let answer = answer.as_mut_ptr();
+    unsafe {
+        sys::justrave_chain(state.as_ptr(), state.len(), place, names.as_ptr(), names.len(), answer, answer_length)
+    }
+}
+
 fn lead(state: &[u64], place: usize, log: &[u8], answer: &mut [i64]) -> u64 {
     let answer_length = answer.len();
     let answer = answer.as_mut_ptr();
@@ -133,13 +141,16 @@ impl Lent {
     }
 
     /// The calls that take a state, each with something that would be refused 5, 11 or 13.
-    fn outcomes(&mut self) -> [u64; 8] {
+    fn outcomes(&mut self) -> [u64; 9] {
         let Lent { state, answer, lead: lead_answer, log } = self;
+        // a name for each place that there is room for
+        let room = state.len().saturating_sub(3) / 6;
         [
             post(state, 99, 1),
             slot(state, answer),
             run(state, log),
             figures(state, 99, 0, answer),
+            chain(state, 99, &log[..room], &mut answer[..1]),
             lead(state, 99, log, lead_answer),
             write(state, log, &mut answer[..1]),
             account(state, 99, answer),
@@ -156,7 +167,7 @@ fn words_of_every_length() {
     for length in 0..=words_for(MOST + 1) + 1 {
         let mut lent = Lent::with_words(length);
         let is_right = right.contains(&length);
-        assert_eq!(lent.outcomes(), [if is_right { 23 } else { 255 }; 8], "{length} words");
+        assert_eq!(lent.outcomes(), [if is_right { 23 } else { 255 }; 9], "{length} words");
         assert!(lent.is_untouched(), "{length} words");
         let started = start(&[], u64::MAX, &mut lent.state);
         assert_eq!(started, if is_right { 8 } else { 255 }, "{length} words");
@@ -189,6 +200,7 @@ fn an_answer_of_another_length() {
                 assert_eq!(standing(&kept, &mut answer), 255);
             }
             if length != 1 {
+                assert_eq!(chain(&kept, 99, &[99; ROOM], &mut answer), 255);
                 assert_eq!(lead(&kept, 99, &[], &mut lead_answer), 255);
                 assert_eq!(write(&kept, &mut buffer, &mut answer), 255);
             }
@@ -225,6 +237,35 @@ fn numbers_of_every_length() {
             let (must, left) = if length == numbers_for(places) { (1, 0) } else { (255, UNTOUCHED) };
             assert_eq!(outcome, must, "{length} numbers, room for {places}");
             assert!(state.iter().all(|&word| word == left), "{length} numbers, room for {places}");
+        }
+    }
+}
+
+/// Every number of names from 0 to two more than there are places, and two that are the right one once cut to 8 bits or to 16, in every
+/// room: 255 comes ahead of 23, 11 and 16, and changes nothing.
+#[test]
+fn names_of_every_length() {
+    for room in 1..=MOST {
+        let mut sound = vec![UNTOUCHED; words_for(room)];
+        assert_eq!(start(&table_of(1, room).0, 0, &mut sound), 0);
+        let broken = vec![UNTOUCHED; words_for(room)];
+        for length in (0..=MOST + 2).chain([256 + room, 65_536 + room]) {
+            for (state, place, name, outcome) in [
+                (&sound, 0, 255, 0),
+                (&sound, 1, 255, 11),
+                (&sound, 0, 1, 11),
+                (&sound, 0, 0, 16 + 256),
+                (&broken, 1, 1, 23),
+            ] {
+                let mut answer = [UNTOUCHED];
+                let must = if length == room { outcome } else { 255 };
+                assert_eq!(
+                    chain(state, place, &vec![name; length], &mut answer),
+                    must,
+                    "{length} names, room for {room}"
+                );
+                assert_eq!(answer == [UNTOUCHED], must != 0, "{length} names, room for {room}");
+            }
         }
     }
 }
@@ -317,6 +358,7 @@ fn cleared_words_are_no_state() {
     assert_eq!(slot(&mut state, &mut answer), 23);
     assert_eq!(run(&mut state, &mut log), 23);
     assert_eq!(figures(&state, 99, 0, &mut answer), 23);
+    assert_eq!(chain(&state, 99, &[0; ROOM], &mut answer[..1]), 23);
     assert_eq!(lead(&state, 99, &log, &mut lead_answer), 23);
     assert_eq!(write(&state, &mut log, &mut answer[..1]), 23);
     assert_eq!(account(&state, 99, &mut answer), 23);
@@ -344,6 +386,81 @@ fn refused_calls_write_nothing() {
     assert_eq!(account(&state, 2, &mut answer), 11);
     assert_eq!((state, answer, lead_answer), (kept, [UNTOUCHED; 2], [-7]));
     assert!(log.iter().all(|&byte| byte == 0xA5));
+}
+
+/// What stands past T's two places makes no difference.
+#[test]
+fn refused_chains_write_nothing() {
+    let state = started();
+    for (place, names, outcome) in [
+        (2, [255, 255, 255], 11),
+        (99, [255, 255, 255], 11),
+        (usize::MAX, [255, 255, 255], 11),
+        (1 << 32, [255, 255, 255], 11),
+        (0, [2, 255, 255], 11),
+        (0, [255, 2, 255], 11),
+        (1, [254, 255, 255], 11),
+        (2, [0, 0, 255], 11),
+        (0, [0, 2, 255], 11),
+        (0, [0, 255, 255], 16 + 256),
+        (0, [255, 1, 255], 16 + 256 * 2),
+        (0, [1, 1, 255], 16 + 256 * 2),
+        (1, [1, 0, 255], 16 + 256),
+        (1, [0, 1, 2], 16 + 256),
+    ] {
+        let mut answer = [UNTOUCHED];
+        assert_eq!(chain(&state, place, &names, &mut answer), outcome, "place {place}, {names:?}");
+        assert_eq!((state, answer), (started(), [UNTOUCHED]), "place {place}, {names:?}");
+    }
+}
+
+/// Names of a chain of so many places, from the last to the first. What stands past the last place would be circles.
+fn one_chain(places: usize, room: usize) -> Vec<u8> {
+    let mut names: Vec<u8> = (0..room as u8).collect();
+    names[..places].rotate_right(1);
+    names[0] = 255;
+    names
+}
+
+/// The same chain with one name changed is refused, whichever place is asked for: closed to a ring of all places, with a last place that
+/// follows one too many, and with a ring of the last two.
+fn check_broken_chains(state: &[u64], places: usize, room: usize) {
+    let broken = |at: usize, name: usize| {
+        let mut names = one_chain(places, room);
+        names[at] = name as u8;
+        names
+    };
+    let mut all = vec![(broken(0, places - 1), 16 + 256), (broken(places - 1, places), 11)];
+    if places >= 2 {
+        // the lower of the two is place N - 2, and an outcome has the place plus 1
+        all.push((broken(places - 2, places - 1), 16 + 256 * (places as u64 - 1)));
+    }
+    for (names, outcome) in all {
+        for place in 0..places {
+            let mut answer = [UNTOUCHED];
+            let told = (chain(state, place, &names, &mut answer), answer);
+            assert_eq!(told, (outcome, [UNTOUCHED]), "place {place} of {places} in {room}, {names:?}");
+        }
+    }
+}
+
+/// In each room, a chain of as many places as there are, from the last to the first: its figure is the sum of what figures answers.
+#[test]
+fn a_chain_of_every_number_of_places() {
+    for room in 1..=MOST {
+        for places in 1..=room {
+            let mut state = vec![UNTOUCHED; words_for(room)];
+            assert_eq!(start(&table_of(places, room).0, 0, &mut state), 0);
+            let names = one_chain(places, room);
+            let (mut answer, mut of_one, mut sum) = ([UNTOUCHED], [UNTOUCHED; 2], 0);
+            for place in 0..places {
+                assert_eq!(figures(&state, place, 1, &mut of_one), 0);
+                sum += of_one[1];
+                assert_eq!((chain(&state, place, &names, &mut answer), answer), (0, [sum]), "{places} in {room}");
+            }
+            check_broken_chains(&state, places, room);
+        }
+    }
 }
 
 #[test]
@@ -402,6 +519,8 @@ fn nothing_is_written_beside_lent_memory() {
     assert_eq!(answer, [UNTOUCHED, 3, 7, UNTOUCHED]);
     assert_eq!(write(state, &mut log[1..21], &mut answer[1..2]), 0);
     assert_eq!(answer, [UNTOUCHED, 10, 7, UNTOUCHED]);
+    assert_eq!(chain(state, 1, &[255, 0, 255], &mut answer[1..2]), 0);
+    assert_eq!(answer, [UNTOUCHED, 11, 7, UNTOUCHED]);
     assert_eq!(account(state, 1, &mut answer[1..3]), 0);
     assert_eq!(answer, [UNTOUCHED, 0, 0, UNTOUCHED]);
     assert_eq!(standing(state, &mut answer[1..3]), 0);
@@ -430,6 +549,9 @@ fn null_of_length_0_may_be_lent() {
         assert_eq!(sys::justrave_run(words, WORDS, null_mut(), 0), 0);
         assert_eq!(sys::justrave_lead(words, WORDS, 1, null(), 0, lead_answer.as_mut_ptr(), 1), 0);
         assert_eq!(sys::justrave_write(words, WORDS, null_mut(), 0, length.as_mut_ptr(), 1), 14);
+        assert_eq!(sys::justrave_chain(words, WORDS, 1, null(), 0, length.as_mut_ptr(), 1), 255);
+        assert_eq!(sys::justrave_chain(words, WORDS, 1, [255; ROOM].as_ptr(), ROOM, null_mut(), 0), 255);
+        assert_eq!(sys::justrave_chain(null(), 0, 1, null(), 0, null_mut(), 0), 255);
         assert_eq!(sys::justrave_slot(words, WORDS, null_mut(), 0), 255);
         assert_eq!(sys::justrave_account(words, WORDS, 1, null_mut(), 0), 255);
         assert_eq!(sys::justrave_standing(null(), 0, null_mut(), 0), 255);

@@ -137,6 +137,33 @@ fn request_2_a_fitter_who_guessed_the_priorities() {
     assert_eq!(justrave::order(&hasty, &mut buffer), Err(refusal));
 }
 
+/// A display at place 2 follows the probe at place 1, and a handset at place 3 the display: finish figures of 7, 8 and 18 slots, below a
+/// pump with 10. The pump sends all it can.
+#[test]
+fn request_4_a_handset_behind_a_display_behind_a_probe() {
+    let mut line = started(&[10, 4, 1, 10, 1, 10, 2, 20, 1, 7, 3, 30, 1, 8, 4, 40, 1, 18]);
+    let mut follows = [None; 16];
+    (follows[2], follows[3]) = (Some(1), Some(2));
+    let figures = [0, 1, 2, 3].map(|place| line.chain(place, &follows));
+    assert_eq!(figures, [10, 7, 15, 33].map(|slots| Ok(Slots(slots))));
+    line.post(0, Transfers(100)).unwrap();
+    let mut granted = Vec::new();
+    for link in [1, 2, 3] {
+        line.post(link, Transfers(1)).unwrap();
+        granted.extend(
+            (0..33)
+                .map(|_| line.slot().unwrap())
+                .find(|told| matches!(told, SlotAnswer::Granted(_, place) if *place == link)),
+        );
+    }
+    // the pump has credit for a transfer in slot 0, and then not before slot 9
+    assert_eq!(granted, [(1, 1), (2, 2), (3, 3)].map(|(stamp, place)| SlotAnswer::Granted(Slots(stamp), place)));
+    follows[1] = Some(3);
+    assert_eq!(line.chain(0, &follows), Err(Refusal { number: 16, place: Some(1), cause: Cause::Input }));
+    follows[1] = Some(4);
+    assert_eq!(line.chain(0, &follows), Err(Refusal { number: 11, place: None, cause: Cause::Input }));
+}
+
 #[test]
 fn case_12_others_who_begin_later() {
     let mut line = started(&[4, 2, 1, 40, 1, 100, 1, 4, 1, 100]);

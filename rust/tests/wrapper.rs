@@ -1,4 +1,5 @@
-//! What the wrapper adds of its own: the sizes of its types in each room, words that are kept and given back, and what an order tells.
+//! What the wrapper adds of its own: the sizes of its types in each room, words that are kept and given back, and what an order and a chain
+//! tell.
 
 use justrave::{sys, Arbiter, Cause, Refusal, Requestor, Slots, Standing, Table, Transfers};
 
@@ -85,4 +86,55 @@ fn an_order_tells_a_length_or_a_refusal() {
     assert_eq!(buffer, [0xA5; 12]);
     assert_eq!(justrave::order(&listed, &mut buffer), Ok(10));
     assert_eq!(buffer, [4, 2, 1, 8, 1, 4, 1, 4, 1, 7, 0xA5, 0xA5]);
+}
+
+/// Table T with room for three places.
+fn line_of_two() -> Arbiter<3> {
+    Arbiter::start_in_room(&[4, 2, 1, 8, 1, 4, 1, 4, 1, 7], Slots(0)).expect("it is accepted")
+}
+
+/// Slots where the chain ends, and else a refusal with its place and its cause.
+#[test]
+fn a_chain_tells_slots_or_a_refusal() {
+    let line = line_of_two();
+    assert_eq!(line.chain(0, &[None; 3]), Ok(Slots(4)));
+    assert_eq!(line.chain(1, &[None; 3]), Ok(Slots(7)));
+    assert_eq!(line.chain(1, &[None, Some(0), None]), Ok(Slots(11)));
+    assert_eq!(line.chain(0, &[Some(1), None, None]), Ok(Slots(11)));
+    for (place, follows, number, named) in [
+        (2, [None, None, None], 11, None),
+        (0, [None, Some(2), None], 11, None),
+        (1, [None, Some(1), None], 16, Some(1)),
+        (1, [Some(1), Some(0), None], 16, Some(0)),
+    ] {
+        let refusal = Refusal { number, place: named, cause: Cause::Input };
+        assert_eq!(line.chain(place, &follows), Err(refusal));
+    }
+    let circle = line.chain(0, &[Some(0), None, None]).unwrap_err();
+    assert_eq!(circle.to_string(), "refused 16 at place 0, by the input: places follow one another in a circle");
+    let broken = Arbiter::<3>::from_words(&[7; 21]).expect("21 words");
+    assert_eq!(broken.chain(9, &[Some(9); 3]), Err(Refusal { number: 23, place: None, cause: Cause::State }));
+}
+
+/// 255 is the library's byte for nobody, and larger numbers have no byte: a place that is followed is absent all the same, and no number
+/// is cut down to one that would do. Past the table's places it is not read.
+#[test]
+fn a_followed_place_without_a_byte_is_absent() {
+    let line = line_of_two();
+    let absent = Refusal { number: 11, place: None, cause: Cause::Input };
+    for place in [2, 16, 253, 254, 255, 256, 257, 511, 1 << 32, (1 << 32) + 1, usize::MAX - 1, usize::MAX] {
+        assert_eq!(line.chain(1, &[None, Some(place), None]), Err(absent), "{place} is followed");
+        assert_eq!(line.chain(1, &[Some(place), None, None]), Err(absent), "{place} is followed");
+        assert_eq!(line.chain(1, &[None, Some(0), Some(place)]), Ok(Slots(11)), "{place} is followed");
+    }
+}
+
+/// One entry to each place that there is room for, in the smallest room and in the largest.
+#[test]
+fn a_chain_in_the_smallest_and_the_largest_room() {
+    let one = Arbiter::<1>::start_in_room(&[4, 1, 1, 8, 1, 4], Slots(0)).expect("it is accepted");
+    assert_eq!(one.chain(0, &[None]), Ok(Slots(4)));
+    assert_eq!(one.chain(0, &[Some(0)]).unwrap_err().place, Some(0));
+    let all = Arbiter::start(&[4, 1, 1, 8, 1, 4], Slots(0)).expect("it is accepted");
+    assert_eq!(all.chain(0, &[None; Table::PLACES]), Ok(Slots(4)));
 }

@@ -1,32 +1,28 @@
--- What is known of words that pass test 23 and of a place that may be asked about, and the ways out of the questions. For any room.
+-- What is known of a place that may be asked about, and the ways out of a look at where the line stands. For any room.
 -- Assumes nothing.
 use mathlib.Core.Path.{_≡_, sym}
 use mathlib.Core.Bool.{true, false}
 use mathlib.Core.List.{List}
-use Prim.Native.Nat.{ℕ, _≤_, _<_}
+use Prim.Native.Nat.{ℕ, _<_}
 use native.Mathlib.Omega.{arith}
-use borrow.Author.Tests.{lt-ltb, le-ltb}
 use Rattle.terms.specs.Table.{Table, requestorAt, tableVerdict}
 use Rattle.terms.specs.Figures.{finishesVerdict, admissionVerdict}
 use Rattle.terms.specs.State.{State, accountAt, sound, placeVerdict}
-use Rattle.terms.specs.Refusals.{faultless, fault, refusal, gate, then}
+use Rattle.terms.specs.Refusals.{faultless, refusal, gate, then}
 use Rattle.terms.proofs.Checks.{Row, fair}
-use Rattle.terms.proofs.Sound.{sound-table, place-open}
+use Rattle.terms.proofs.Sound.{place-open}
 use Rattle.table_bytes.proofs.Writings.{row-fits}
 use Rattle.layout.specs.Words.{roomOf, rightLength, rowIn, accountIn, stateOf}
 use Rattle.layout.proofs.RoundTrip.{account-at}
 use Rattle.admission.specs.Checked.{tableIn, Checked}
 use Rattle.admission.proofs.Rows.{rows-length, row-at, room-past, Placed, placed}
+use Rattle.soundness.proofs.Places.{sound-checked}
 use Rattle.asking.specs.Look.{told, refused, standing}
 
 -- ---- words
 
 module _ (most : ℕ) (words : List ℕ) where
-  -- a sound state's table passes checks 1 to 6
-  pub sound-checked : rightLength most words ≡ true → sound (roomOf words) (stateOf words) ≡ true → Checked most words
-  sound-checked right ok = record { right = right; passes = sound-table (roomOf words) (stateOf words) ok }
-
-  -- so that each row is within its limits
+  -- each row is within its limits
   pub checked-row : (p : ℕ) → Checked most words → p < tableIn words .count → Row (tableIn words .denominator) (rowIn words p)
   checked-row p k h =
       let there : p < roomOf words = omega (arith, fair (roomOf words) (tableIn words) (k .passes) .count-most) in
@@ -35,7 +31,7 @@ module _ (most : ℕ) (words : List ℕ) where
   -- a place that may be asked about
   module _ (p : ℕ) (right : rightLength most words ≡ true) (ok : placeVerdict (roomOf words) (stateOf words) p ≡ faultless) where
     pub asked-place : Placed most words p
-    asked-place = let a = place-open (roomOf words) (stateOf words) p ok in placed most words p (sound-checked right (a .0)) (a .1)
+    asked-place = let a = place-open (roomOf words) (stateOf words) p ok in placed most words p (sound-checked most words right (a .0)) (a .1)
 
     in-room : p < roomOf words
     in-room = room-past words p (asked-place .there)
@@ -54,25 +50,10 @@ finishes-left limit t passes = rw passes
 -- ---- the ways out
 
 module _ (limit : ℕ) (s : State) where
-  -- no sound state
-  module _ (not : sound limit s ≡ false) where
-    pub place-unsound : (p : ℕ) → fault (refusal 23) ≡ placeVerdict limit s p
-    unfolding placeVerdict gate
-    place-unsound p = rw not
+  pub standing-unsound : sound limit s ≡ false → refused (refusal 23) ≡ standing limit s
+  unfolding standing gate
+  standing-unsound not = rw not
 
-    pub standing-unsound : refused (refusal 23) ≡ standing limit s
-    unfolding standing gate
-    standing-unsound = rw not
-
-  module _ (ok : sound limit s ≡ true) where
-    pub no-such-place : (p : ℕ) → s .table .count ≤ p → fault (refusal 11) ≡ placeVerdict limit s p
-    unfolding placeVerdict gate
-    no-such-place p h = rw (ok, le-ltb p (s .table .count) h)
-
-    pub place-passes : (p : ℕ) → p < s .table .count → faultless ≡ placeVerdict limit s p
-    unfolding placeVerdict gate
-    place-passes p h = rw (ok, lt-ltb p (s .table .count) h)
-
-    pub standing-told : told (record { slot = s .slot .0; count = s .table .count }) ≡ standing limit s
-    unfolding standing gate
-    standing-told = rw ok
+  pub standing-told : sound limit s ≡ true → told (record { slot = s .slot .0; count = s .table .count }) ≡ standing limit s
+  unfolding standing gate
+  standing-told ok = rw ok

@@ -1,8 +1,8 @@
 // The reported wait of a place, and its finish figure for j transfers.
-use crate::place::check_place;
 use admission::figures::finish;
 use admission::figures::wait;
 use arbiter::bounds::need_bounds;
+use soundness::place::check_place;
 use terms::answers::FiguresAnswer;
 use terms::answers::PlaceFigures;
 use terms::refusals::Verdict;

@@ -1,10 +1,10 @@
 // The lead of a place over a log.
-use crate::place::check_place;
 use arbiter::input::check_input;
 use layout::words::denominator;
 use layout::words::rate;
 use lead_parts::count_grants;
 use lead_parts::difference;
+use soundness::place::check_place;
 use terms::answers::LeadAnswer;
 use terms::refusals::Verdict;
 use terms::refusals::first_fault;

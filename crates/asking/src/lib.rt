@@ -4,5 +4,4 @@
 pub mod figures;
 pub mod lead;
 pub mod look;
-mod place;
 pub mod write;

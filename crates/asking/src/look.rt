@@ -1,8 +1,8 @@
 // A look into a state: the account of a place, and where the line stands.
-use crate::place::check_place;
 use layout::words::account;
 use layout::words::count;
 use layout::words::slot_number;
+use soundness::place::check_place;
 use soundness::soundness::is_sound;
 use terms::answers::AccountAnswer;
 use terms::answers::StandingAnswer;

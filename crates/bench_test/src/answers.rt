@@ -12,6 +12,7 @@ use bench_parts::printing::state;
 use bench_parts::printing::table;
 use bench_parts::printing::told;
 use calls::admit::admit_table;
+use calls::chain::chain;
 use calls::figures::figures;
 use calls::lead::lead;
 use calls::look::account;
@@ -27,6 +28,7 @@ use in_place::slot_of_a_loan;
 use ordering::order::order;
 use replay::replay;
 use terms::answers::AccountAnswer;
+use terms::answers::ChainAnswer;
 use terms::answers::FiguresAnswer;
 use terms::answers::LeadAnswer;
 use terms::answers::OrderAnswer;
@@ -175,6 +177,13 @@ pub fn figures_of(s: Arbiter, place: usize) {
             told(printing::FINISH, finish.0);
         }
         FiguresAnswer::Refused(c) => refused(c),
+    }
+}
+
+pub fn chains(s: Arbiter, place: usize, names: &[u8]) {
+    match chain(s, place, names) {
+        ChainAnswer::Figure(f) => number(f.0),
+        ChainAnswer::Refused(c) => refused(c),
     }
 }
 

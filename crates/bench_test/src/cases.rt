@@ -1,5 +1,6 @@
 // Document 01's cases, in its order, and then the thin form and more of replay.
 use crate::answers::admits;
+use crate::answers::chains;
 use crate::answers::figures_of;
 use crate::answers::leads;
 use crate::answers::lends;
@@ -167,6 +168,17 @@ fn put_in_order() {
     orders(two_places(4, row(1, 4, 6), row(0, 8, 4)));
 }
 
+// Document 02, request 4: T's probe behind its pump, the two behind each other, and the probe behind a place that is not there.
+fn one_behind_the_other() {
+    let s = t_with(account(8, 0), account(4, 0), 0);
+    case(0);
+    chains(s, 1, b"\xff\x00");
+    case(0);
+    chains(s, 1, b"\x01\x00");
+    case(0);
+    chains(s, 0, b"\xff\x02");
+}
+
 // A place, one that is not there, and a state with a credit above its burst.
 fn looks_into_a_state() {
     let s = t_with(account(5, 3), account(2, 1), 7);
@@ -193,4 +205,5 @@ pub fn all() {
     written();
     looks_into_a_state();
     put_in_order();
+    one_behind_the_other();
 }

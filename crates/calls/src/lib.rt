@@ -2,6 +2,7 @@
 // handed in. Those on a table lay it into words, or read it into them.
 
 pub mod admit;
+pub mod chain;
 pub mod figures;
 pub mod lead;
 pub mod look;

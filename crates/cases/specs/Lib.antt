@@ -6,4 +6,5 @@ pub mod BytesRows
 pub mod LogRows
 pub mod ListingRows
 pub mod RequestRows
+pub mod ChainRows
 pub mod Cases

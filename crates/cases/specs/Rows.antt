@@ -19,6 +19,8 @@ use Rattle.terms.specs.Input.{inputVerdict}
 use Rattle.terms.specs.Start.{start}
 use Rattle.terms.specs.Asked.{FiguresAnswer}
 use Rattle.terms.specs.Asked as asked
+use Rattle.terms.specs.Chain.{ChainAnswer}
+use Rattle.terms.specs.Chain as chains
 use Rattle.lead_parts.specs.Lead.{LeadAnswer, leadVerdict, leadAsked}
 use Rattle.table_bytes.specs.Reading.{Read, numberRead, readTable}
 use Rattle.table_bytes.specs.Writing.{WriteAnswer, writeTable}
@@ -102,6 +104,8 @@ pub data Question : Type 0 where
   leadChecks : State → (place count : ℕ) → Question
   -- the figures call
   askingFigures : State → (place j : ℕ) → Question
+  -- the chain figure of a place, with these names
+  chaining : State → (place : ℕ) → (names : List ℕ) → Question
   -- B, R, the wait and the finish figure of a place for j transfers
   figures : Table → (place j : ℕ) → Question
   -- its finish figure, and what it was before request 1; and what admission found with that
@@ -142,6 +146,7 @@ pub data Reply : Type 0 where
   ran : Answer → (log : List ℕ) → Standing → Reply
   led : LeadAnswer → Reply
   told-figures : FiguresAnswer → Reply
+  told-chain : ChainAnswer → Reply
   figured : (B R wait finish : ℕ) → Reply
   finished : (finish former : ℕ) → Reply
   ordered-as : Answer → Table → Reply
@@ -192,6 +197,7 @@ reply (runChecks s count) = found (runVerdict maxPlaces s count)
 reply (leading s p log) = led (leadAsked maxPlaces s p log)
 reply (leadChecks s p count) = found (leadVerdict maxPlaces s p count)
 reply (askingFigures s p j) = told-figures (asked.figures maxPlaces s p j)
+reply (chaining s p names) = told-chain (chains.chain maxPlaces s p names)
 reply (figures t p j) =
     let B = burstsAbove p (requestorsOf t) in
     let R = rateLeft (t .denominator) p (requestorsOf t) in

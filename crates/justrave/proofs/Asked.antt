@@ -9,11 +9,13 @@ use lib.Dec.{eqb}
 use lib.IntN.{ℤ}
 use lib.ListN.{length, set}
 use Rattle.lists.specs.Choices.{pick}
+use Rattle.lists.proofs.Tests.{true-and, and-false}
 use Rattle.terms.specs.declared.refusals.Refusal.{Refusal}
 use Rattle.terms.specs.declared.place.Account.{Account}
 use Rattle.terms.specs.State.{State, sound}
 use Rattle.terms.specs.Refusals.{refusal}
 use Rattle.terms.specs.Asked as asked
+use Rattle.terms.specs.Chain as chains
 use Rattle.lead_parts.specs.Lead as leads
 use Rattle.table_bytes.specs.Writing as writing
 use Rattle.layout.specs.Words.{roomOf, rightLength, stateOf}
@@ -22,8 +24,8 @@ use Rattle.ordered_bytes.specs.OrderBytes.{orderBytes}
 use Rattle.outcomes.specs.Outcomes.{refusalCode, wrongLength}
 use Rattle.outcomes.specs.Places.{Below}
 use Rattle.outcomes.proofs.Numbering.{below-more}
-use Rattle.outcomes.proofs.Places.{figures-name-below, leads-name-below, write-names-below, looks-name-below, standings-name-below}
-use Rattle.justrave.specs.Exported.{Figured, figuresTold, figured, lookTold, accountTold, stands, standingTold, Led, leadTold, led, Wrote, writeWords, writeCode, writeTold, wrote, ordered}
+use Rattle.outcomes.proofs.Places.{figures-name-below, chains-name-below, leads-name-below, write-names-below, looks-name-below, standings-name-below}
+use Rattle.justrave.specs.Exported.{Figured, figuresTold, figured, chainTold, chained, lookTold, accountTold, stands, standingTold, Led, leadTold, led, Wrote, writeWords, writeCode, writeTold, wrote, ordered}
 use Rattle.justrave.proofs.Lengths.{lent-room, lent-beside, lent-shut, lent-open}
 
 -- an answer of one number
@@ -31,6 +33,11 @@ pub one-put : {A : Type 0} (old : List A) (x : A) → length old ≡ 1 → set o
 one-put [] x h = absurd (omega arith)
 one-put (a ∷ []) x h = refl
 one-put (a ∷ b ∷ old) x h = absurd (omega arith)
+
+-- three tests, one by one
+and-assoc : (a b c : Bool) → ((a && b) && c) ≡ (a && (b && c))
+and-assoc true b c = refl
+and-assoc false b c = refl
 
 module _ (most : ℕ) (words : List ℕ) where
   abbrev room : ℕ
@@ -89,6 +96,43 @@ module _ (most : ℕ) (words : List ℕ) where
 
       pub standing-below : (r : Refusal) → d ≡ look.refused r → Below most (r .place)
       standing-below r h = below z r (standings-name-below room s r (sym f ∙ h) .place)
+
+  -- ---- the chain figure: one word, and names beside it
+
+  module _ (p : ℕ) (names old : List ℕ) (hold : Bool) (e : hold ≡ (rightLength most words && eqb (length old) 1)) where
+    abbrev chain-down : Figured
+    chain-down = record { answer = old; outcome = wrongLength }
+
+    abbrev chain-call : ℕ → State → Figured
+    chain-call limit s = chainTold old (chains.chain limit s p names)
+
+    abbrev lent-both : Bool
+    lent-both = eqb (length old) 1 && eqb (length names) room
+
+    -- the words and the answer were tested first, and then the names
+    both : (hold && eqb (length names) room) ≡ (rightLength most words && lent-both)
+    both = ap (λ h. h && eqb (length names) room) e ∙ and-assoc (rightLength most words) (eqb (length old) 1) (eqb (length names) room)
+
+    pub chain-shut : hold ≡ false → chain-down ≡ chained most words p names old
+    unfolding chained
+    chain-shut z = lent-shut most words lent-both (hold && eqb (length names) room) both chain-down chain-call (rw z)
+
+    pub chain-names-shut : (length names ≡ room → ⊥) → chain-down ≡ chained most words p names old
+    unfolding chained
+    chain-names-shut h = lent-shut most words lent-both (hold && eqb (length names) room) both chain-down chain-call (and-false hold _ (ne-eqb (length names) room h))
+
+    module _ (z : hold ≡ true) (h : length names ≡ room) (d : chains.ChainAnswer) (f : d ≡ chains.chain room s p names) where
+      pub chain-told : (x : Figured) → x ≡ chainTold old d → x ≡ chained most words p names old
+      unfolding chained
+      chain-told x g =
+          lent-open most words lent-both (hold && eqb (length names) room) both chain-down chain-call (true-and hold _ z (eq-eqb (length names) room h)) x
+          (g ∙ ap (chainTold old) f)
+
+      pub chain-given : (x : ℕ) (after : List ℕ) → d ≡ chains.figured x → after ≡ x ∷ [] → _≡_ {A = Figured} (record { answer = after; outcome = 0 }) (chained most words p names old)
+      chain-given x after a b = chain-told _ (rw (a, b))
+
+      pub chain-below : (r : Refusal) → d ≡ chains.refused r → Below most (r .place)
+      chain-below r g = below-more room most (r .place) (lent-room most words (eqb (length old) 1) hold e z) (chains-name-below room s p names r (sym f ∙ g) .place)
 
   -- ---- the lead
 

@@ -1,8 +1,8 @@
--- What each call for firmware does to the memory that is lent to it, and its outcome, one number. The calls are those of document 01 on
--- the state that the words are; how many places the words have room for is the `limit` of each. One of those with an outcome is lent
--- no state: it puts a table's bytes in order. `most` is the largest N. Words of any length but that of 1 to `most` places, a lent answer or
--- lent numbers of a wrong length are 255, ahead of all else. What is said of memory is said of it at exit; that lent memory does not overlap
--- is the caller's part, in Rattle and Rust by its types.
+-- What each call for firmware does to the memory that is lent to it, and its outcome, one number. The calls are those of documents 01 and 02
+-- on the state that the words are; how many places the words have room for is the `limit` of each. One of those with an outcome is lent
+-- no state: it puts a table's bytes in order. `most` is the largest N. Words of any length but that of 1 to `most` places, a lent answer,
+-- lent numbers or lent names of a wrong length are 255, ahead of all else. What is said of memory is said of it at exit; that lent
+-- memory does not overlap is the caller's part, in Rattle and Rust by its types.
 use mathlib.Core.Bool.{Bool, true, _&&_}
 use mathlib.Core.List.{List, [], _∷_}
 use Prim.Native.Nat.{ℕ, _+_}
@@ -17,6 +17,7 @@ use Rattle.terms.specs.Refusals.{refusal}
 use Rattle.terms.specs.Answers.{Answer, accepted, granted, idle, refused}
 use Rattle.terms.specs.Start.{start}
 use Rattle.terms.specs.Asked as asked
+use Rattle.terms.specs.Chain as chains
 use Rattle.lead_parts.specs.Lead as leads
 use Rattle.table_bytes.specs.Reading.{readTable}
 use Rattle.table_bytes.specs.Writing as writing
@@ -115,6 +116,17 @@ unfoldable pub figured : (most : ℕ) → (words : List ℕ) → (place j : ℕ)
 figured most words p j old =
     onState most words (eqb (length old) 2) (record { answer = old; outcome = wrongLength })
     λ limit s. figuresTold old (asked.figures limit s p j)
+
+-- the chain figure
+abbrev pub chainTold : (old : List ℕ) → chains.ChainAnswer → Figured
+chainTold old (chains.figured figure) = record { answer = figure ∷ []; outcome = 0 }
+chainTold old (chains.refused r) = record { answer = old; outcome = refusalCode r }
+
+-- as many names are lent as the words have room for places
+unfoldable pub chained : (most : ℕ) → (words : List ℕ) → (place : ℕ) → (names old : List ℕ) → Figured
+chained most words p names old =
+    onState most words (eqb (length old) 1 && eqb (length names) (roomOf words)) (record { answer = old; outcome = wrongLength })
+    λ limit s. chainTold old (chains.chain limit s p names)
 
 -- the credit and the backlog of a place
 abbrev pub lookTold : (old : List ℕ) → look.Told Account → Figured

@@ -1,4 +1,5 @@
-// The exported calls that ask about a state and leave it as it is: figures, lead, the table's bytes, an account, and where the line stands.
+// The exported calls that ask about a state and leave it as it is: figures, a chain figure, lead, the table's bytes, an account, and where
+// the line stands.
 use crate::lent::lengths_hold;
 use crate::lent::put_two;
 use asking::figures::figures_words;
@@ -6,10 +7,13 @@ use asking::lead::lead_words;
 use asking::look::account_words;
 use asking::look::standing_words;
 use asking::write::write_state;
+use chains::chain::chain_words;
+use layout::words::room_of;
 use outcomes::codes::WRONG_LENGTH;
 use outcomes::codes::refusal_code;
 use soundness::soundness::is_sound;
 use terms::answers::AccountAnswer;
+use terms::answers::ChainAnswer;
 use terms::answers::FiguresAnswer;
 use terms::answers::LeadAnswer;
 use terms::answers::StandingAnswer;
@@ -19,7 +23,7 @@ use terms::refusals::StateRefusal;
 use terms::units::Transfers;
 ghost use mathlib.Core.Path.{_≡_};
 ghost use Rattle.terms.specs.Limits.{maxPlaces};
-ghost use Rattle.justrave.specs.Exported.{figured, led, wrote, accountTold, standingTold};
+ghost use Rattle.justrave.specs.Exported.{figured, chained, led, wrote, accountTold, standingTold};
 
 // The answer is the reported wait and the finish figure for j transfers. Refused: 255, 23, 11, 5.
 #[no_mangle]
@@ -38,6 +42,33 @@ pub extern "C" fn justrave_figures(state: &[u64], place: usize, j: u64, answer: 
             0
         }
         FiguresAnswer::Refused(c) => refusal_code(c),
+    }
+}
+
+// The answer is the chain figure of the place. The names are one byte for each place that the words have room for: the place that it
+// follows, or 255 for nobody; those past the table's places are not read. Refused: 255, 23, 11, 16.
+#[no_mangle]
+pub extern "C" fn justrave_chain(
+    state: &[u64],
+    place: usize,
+    names: &[u8],
+    answer: &mut [u64],
+) -> u64
+    ensures { λ r. ⌜ record { answer = now (answer .exit); outcome = r } ≡ chained maxPlaces (now (state .entry)) place (now (names .entry)) (now (answer .entry)) ⌝ }
+{
+    if !lengths_hold(state, answer.len() == 1) {
+        return WRONG_LENGTH;
+    }
+    if names.len() != room_of(state) {
+        return WRONG_LENGTH;
+    }
+    let told = chain_words(state, place, names);
+    match told {
+        ChainAnswer::Figure(f) => {
+            answer[0] = f.0;
+            0
+        }
+        ChainAnswer::Refused(c) => refusal_code(c),
     }
 }
 

@@ -26,11 +26,16 @@ module _ {S C A : Type 0} (step : S → C → Result S A) where
   end-more s [] c = refl
   end-more s (b ∷ calls) c = end-more (step s b .state) calls c
 
-  -- and its answer is the last
-  pub answers-more : (s : S) (calls : List C) (c : C) → answers step s (calls ++ (c ∷ [])) ≡ answers step s calls ++ (step (end step s calls) c .answer ∷ [])
+  -- more calls at the end: they get the state that the others handed back
+  pub answers-append : (s : S) (calls more : List C) → answers step s (calls ++ more) ≡ answers step s calls ++ answers step (end step s calls) more
   unfolding end answers
-  answers-more s [] c = refl
-  answers-more s (b ∷ calls) c = ap (λ heard. step s b .answer ∷ heard) (answers-more (step s b .state) calls c)
+  answers-append s [] more = refl
+  answers-append s (c ∷ calls) more = ap (λ heard. step s c .answer ∷ heard) (answers-append (step s c .state) calls more)
+
+  -- and the answer to one call more is the last
+  pub answers-more : (s : S) (calls : List C) (c : C) → answers step s (calls ++ (c ∷ [])) ≡ answers step s calls ++ (step (end step s calls) c .answer ∷ [])
+  unfolding answers
+  answers-more s calls c = answers-append s calls (c ∷ [])
 
   -- an answer to each call
   pub length-answers : (s : S) (calls : List C) → length (answers step s calls) ≡ length calls

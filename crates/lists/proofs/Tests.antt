@@ -1,8 +1,8 @@
 -- Laws on tests over a list and over numbers: what a test that passes says of each element, and the other way round.
 -- Assumes nothing.
-use mathlib.Core.Path.{_≡_, refl, sym}
+use mathlib.Core.Path.{_≡_, refl, ap, sym}
 use mathlib.Core.Bool.{Bool, true, false, _&&_}
-use mathlib.Core.List.{List, [], _∷_}
+use mathlib.Core.List.{List, [], _∷_, _++_}
 use Prim.Native.Nat.{ℕ, zero, suc, _+_, _≤_, _<_}
 use native.Mathlib.Nat.{not-suc-le-zero}
 use native.Mathlib.Omega.{arith}
@@ -66,6 +66,17 @@ module _ {A : Type 0} (test : A → Bool) (z : A) where
   every-fails [] i h e = absurd (not-suc-le-zero h)
   every-fails (x ∷ xs) zero h e = rw e
   every-fails (x ∷ xs) (suc i) h e = and-false (test x) (every test xs) (every-fails xs i (omega arith) e)
+
+  -- one element more at the end
+  pub every-last : (xs : List A) (x : A) → test x ≡ true → every test (xs ++ (x ∷ [])) ≡ every test xs
+  unfolding every
+  every-last [] x e = rw e
+  every-last (y ∷ xs) x e = ap (λ b. test y && b) (every-last xs x e)
+
+  pub every-last-fails : (xs : List A) (x : A) → test x ≡ false → every test (xs ++ (x ∷ [])) ≡ false
+  unfolding every
+  every-last-fails [] x e = rw e
+  every-last-fails (y ∷ xs) x e = and-false (test y) (every test (xs ++ (x ∷ []))) (every-last-fails xs x e)
 
   -- a walk over a list, from element i on: what its next step is
   pub every-pass : (xs : List A) (i : ℕ) → i < length xs → test (getD xs i z) ≡ true → every test (drop i xs) ≡ every test (drop (i + 1) xs)

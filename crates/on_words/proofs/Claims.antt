@@ -20,6 +20,7 @@ use Rattle.terms.specs.Refusals.{Verdict, faultless, fault, refusal, gate, then
 use Rattle.terms.specs.Answers.{Answer, accepted, granted, idle, refused, unless}
 use Rattle.terms.specs.Start.{fresh, opening, noState, startVerdict, start, turnedDown}
 use Rattle.terms.specs.Asked as asked
+use Rattle.terms.specs.Chain as chains
 use Rattle.lead_parts.specs.Lead as leads
 use Rattle.terms.specs.TableResult.{TableResult, accept, refuse}
 use Rattle.table_bytes.specs.Reading.{Read, read, stop, numbersRead, lastVerdict, settled, readTable}
@@ -42,9 +43,9 @@ use Rattle.starts.specs.Starts.{begun}
 use Rattle.asking.specs.Look as look
 use Rattle.outcomes.specs.Outcomes.{refusalCode, answerCode, wrongLength}
 use Rattle.outcomes.specs.Places.{ofAnyCall, ToldOf}
-use Rattle.outcomes.proofs.Places.{known-any, code-apart, start-names-below, table-start-names-below, calls-name-below, runs-name-below, leads-name-below, figures-name-below, write-names-below, looks-name-below, standings-name-below}
-use Rattle.justrave.specs.Exported.{onState, Stated, posted, slotWords, Slotted, slotted, Ran, ran, leaves, started, startedOf, Figured, figuresTold, figured, lookTold, accountTold, stands, standingTold, leadTold, Led, led, Wrote, writeTold, wrote}
-use Rattle.on_words.specs.Claims.{Fits, Post-by-value, Start-by-value, Starts-agree, Slot-by-value, Run-by-value, Figures-by-value, Account-by-value, Standing-by-value, Lead-by-value, Write-by-value, lentCall, lastTold, In-a-row, Exactly-255, Lengths, Wrong-length, Broken, Broken-words, Start-shaped, Start-of-numbers-shaped, Refused, Clears, Post-refused, Slot-refused, Run-refused, Figures-refused, Account-refused, Standing-refused, Lead-refused, Write-refused, Start-refused, Start-of-numbers-refused}
+use Rattle.outcomes.proofs.Places.{known-any, chain-any, code-apart, start-names-below, table-start-names-below, calls-name-below, runs-name-below, leads-name-below, figures-name-below, chains-name-below, write-names-below, looks-name-below, standings-name-below}
+use Rattle.justrave.specs.Exported.{onState, Stated, posted, slotWords, Slotted, slotted, Ran, ran, leaves, started, startedOf, Figured, figuresTold, figured, chainTold, chained, lookTold, accountTold, stands, standingTold, leadTold, Led, led, Wrote, writeTold, wrote}
+use Rattle.on_words.specs.Claims.{Fits, Post-by-value, Start-by-value, Starts-agree, Slot-by-value, Run-by-value, Figures-by-value, Chain-by-value, Account-by-value, Standing-by-value, Lead-by-value, Write-by-value, lentCall, lastTold, In-a-row, Exactly-255, Lengths, Wrong-length, Broken, Broken-words, Start-shaped, Start-of-numbers-shaped, Refused, Clears, Post-refused, Slot-refused, Run-refused, Figures-refused, Chain-refused, Account-refused, Standing-refused, Lead-refused, Write-refused, Start-refused, Start-of-numbers-refused}
 
 and-one : (b : Bool) → (b && true) ≡ b
 and-one true = refl
@@ -79,6 +80,13 @@ run-by-value most room s log v = on-words most room s true _ _ v refl
 pub figures-by-value : Figures-by-value
 unfolding figured
 figures-by-value most room s p j old v two = on-words most room s (eqb (length old) 2) _ _ v (eq-eqb (length old) 2 two)
+
+pub chain-by-value : Chain-by-value
+unfolding chained
+chain-by-value most room s p names old v one as-many =
+    let full = words-read-back most room s (v .shaped) (v .some) (v .few) .1 in
+    on-words most room s (eqb (length old) 1 && eqb (length names) (roomOf (stateWords s))) _ _ v
+    (true-and _ _ (eq-eqb (length old) 1 one) (eq-eqb (length names) (roomOf (stateWords s)) (as-many ∙ sym full)))
 
 pub account-by-value : Account-by-value
 unfolding accountTold
@@ -283,6 +291,13 @@ module _ (room : ℕ) (s : State) where
       by (asked.figured wait finish) t = went refl
       by (asked.refused r) t = turned r (t r refl) refl refl
 
+  chain-ends : (p : ℕ) (names old : List ℕ) → let d = chainTold old (chains.chain room s p names) in Ends room (d .outcome) (d .answer ≡ old)
+  chain-ends p names old = by (chains.chain room s p names) (λ r e. chain-any (chains-name-below room s p names r e))
+    where
+      by : (a : chains.ChainAnswer) → ((r : Refusal) → a ≡ chains.refused r → ToldOf ofAnyCall room r) → Ends room (chainTold old a .outcome) (chainTold old a .answer ≡ old)
+      by (chains.figured figure) t = went refl
+      by (chains.refused r) t = turned r (t r refl) refl refl
+
   account-ends : (p : ℕ) (old : List ℕ) → let d = lookTold old (look.accountAsked room s p) in Ends room (d .outcome) (d .answer ≡ old)
   account-ends p old = by (look.accountAsked room s p) (λ r e. known-any (looks-name-below room s p r e))
     where
@@ -364,6 +379,12 @@ unfolding figured
 figures-refused most words p j old =
     left (λ (x : Figured). x .outcome) most words (eqb (length old) 2) _ _ (λ (x : Figured). x .answer ≡ old) refl
     (λ long. all-stands (figures-ends (roomOf words) (stateOf words) p j old))
+
+pub chain-refused : Chain-refused
+unfolding chained
+chain-refused most words p names old =
+    left (λ (x : Figured). x .outcome) most words (eqb (length old) 1 && eqb (length names) (roomOf words)) _ _ (λ (x : Figured). x .answer ≡ old) refl
+    (λ long. all-stands (chain-ends (roomOf words) (stateOf words) p names old))
 
 pub account-refused : Account-refused
 unfolding accountTold
@@ -462,7 +483,7 @@ module _ (most : ℕ) (words : List ℕ) where
   words-only outcome e = rw (and-one (rightLength most words)) at e
 
   lengths : Lengths most words
-  unfolding started startedOf posted slotted ran figured accountTold standingTold led wrote
+  unfolding started startedOf posted slotted ran figured chained accountTold standingTold led wrote
   lengths = record {
     start = λ bytes first. leaves-255 most words (rightLength most words) _ (begun-ends room bytes first);
     numbers = λ numbers first. leaves-255 most words (rightLength most words && rightNumbers room numbers) _ (start-ends room (numbersTable room numbers) first);
@@ -470,6 +491,7 @@ module _ (most : ℕ) (words : List ℕ) where
     slot = λ old. exactly (λ (x : Slotted). x .outcome) most words (eqb (length old) 2) _ _ refl (never-255 (call-ends room held slot));
     run = λ log. words-only _ (exactly (λ (x : Ran). x .outcome) most words true _ _ refl (never-255 (run-ends room held log)));
     figures = λ p j old. exactly (λ (x : Figured). x .outcome) most words (eqb (length old) 2) _ _ refl (never-255 (figures-ends room held p j old));
+    chain = λ p names old. exactly (λ (x : Figured). x .outcome) most words (eqb (length old) 1 && eqb (length names) room) _ _ refl (never-255 (chain-ends room held p names old));
     account = λ p old. exactly (λ (x : Figured). x .outcome) most words (eqb (length old) 2) _ _ refl (never-255 (account-ends room held p old));
     standing = λ old. exactly (λ (x : Figured). x .outcome) most words (eqb (length old) 2) _ _ refl (never-255 (standing-ends room held old));
     lead = λ p log old. exactly (λ (x : Led). x .outcome) most words (eqb (length old) 1) _ _ refl (never-255 (lead-ends room held p log old));
@@ -501,13 +523,14 @@ module _ (most : ℕ) (words : List ℕ) (long : rightLength most words ≡ true
   place-23 p = rw broken
 
   all-23 : Broken most words
-  unfolding posted slotted ran figured accountTold standingTold led wrote asked.figures asked.figuresVerdict look.accountAsked look.standing leads.leadAsked leads.leadVerdict gate then
+  unfolding posted slotted ran figured chained accountTold standingTold led wrote asked.figures asked.figuresVerdict chains.chain chains.chainVerdict look.accountAsked look.standing leads.leadAsked leads.leadVerdict gate then
   all-23 = record {
     post = λ p count. ap (λ (x : Stated). x .outcome) (on-call most words true _ _ long refl) ∙ call-23 (post p count);
     slot = λ old two. ap (λ (x : Slotted). x .outcome) (on-call most words (eqb (length old) 2) _ _ long (eq-eqb (length old) 2 two)) ∙ call-23 slot;
     run = λ log. ap (λ (x : Ran). x .outcome) (on-call most words true _ _ long refl)
         ∙ ap (λ (r : Outcome). answerCode (r .answer)) (sym (run-unsound (roomOf words) s log s (refused (refusal 23)) broken refl refl)) ∙ code-23;
     figures = λ p j old two. ap (λ (x : Figured). x .outcome) (on-call most words (eqb (length old) 2) _ _ long (eq-eqb (length old) 2 two)) ∙ rw (place-23 p) code-23;
+    chain = λ p names old one as-many. ap (λ (x : Figured). x .outcome) (on-call most words (eqb (length old) 1 && eqb (length names) (roomOf words)) _ _ long (true-and _ _ (eq-eqb (length old) 1 one) (eq-eqb (length names) (roomOf words) as-many))) ∙ rw (place-23 p) code-23;
     account = λ p old two. ap (λ (x : Figured). x .outcome) (on-call most words (eqb (length old) 2) _ _ long (eq-eqb (length old) 2 two)) ∙ rw (place-23 p) code-23;
     standing = λ old two. ap (λ (x : Figured). x .outcome) (on-call most words (eqb (length old) 2) _ _ long (eq-eqb (length old) 2 two)) ∙ rw broken code-23;
     lead = λ p log old one. ap (λ (x : Led). x .outcome) (on-call most words (eqb (length old) 1) _ _ long (eq-eqb (length old) 1 one)) ∙ rw (place-23 p) code-23;

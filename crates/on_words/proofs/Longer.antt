@@ -7,7 +7,7 @@ use Prim.Native.Nat.{ℕ, zero, suc, _+_, _*_, _≤_, _<_}
 use native.Mathlib.Omega.{arith}
 use borrow.Author.Tests.{leb-true, leb-false, le-leb, ltb-true}
 use lib.Dec.{ltb, leb}
-use lib.ListN.{length, getD, take, drop, replicate, length-append, length-replicate, length-take}
+use lib.ListN.{length, getD, take, drop, replicate, length-append, length-replicate, length-take, List·getD-append}
 use lib.Seq.{take-append-le, drop-append-le, getD-take, set-append-left}
 use Rattle.lists.specs.Sums.{joined, every, upTo}
 use Rattle.lists.specs.Pairs.{paired}
@@ -24,8 +24,10 @@ use Rattle.terms.specs.Answers.{Answer}
 use Rattle.terms.specs.Figures.{admissionVerdict}
 use Rattle.terms.specs.Input.{inputVerdict}
 use Rattle.terms.specs.Asked.{figuresVerdict, figures}
+use Rattle.terms.specs.Chain.{nobody, chainFigure, followingVerdict, chainVerdict, chain}
 use Rattle.terms.proofs.Checks.{fair, Fair}
 use Rattle.terms.proofs.Sound.{sound-table}
+use Rattle.chains.proofs.Claims.{names-past-unread}
 use Rattle.lead_parts.specs.Lead.{leadVerdict, leadAsked}
 use Rattle.table_bytes.specs.Reading.{next}
 use Rattle.table_bytes.specs.Writing.{tableNumbers, tableBytes, writeVerdict, writeTable}
@@ -275,6 +277,16 @@ module _ (room extra : ℕ) (s : State) (v : Shaped room s) where
   unfolding figures figuresVerdict placeVerdict gate then
   same-figures p j = cases (sound room s)
       (λ q. rw (same-sound room extra s v, q, same-rows room extra (s .table) (v .rows) (few-places room extra s v q)))
+      (λ q. rw (same-sound room extra s v, q))
+
+  -- with a name more for each place more, whatever it is
+  pub same-chain : (p : ℕ) (names past : List ℕ) → length names ≡ room → chain (room + extra) big p (names ++ past) ≡ chain room s p names
+  unfolding chain chainVerdict followingVerdict chainFigure placeVerdict gate then
+  same-chain p names past as-many = cases (sound room s)
+      (λ q.
+      let few = few-places room extra s v q in
+      let unread = names-past-unread room s v p (names ++ past) names (λ i h. List·getD-append names past nobody i (omega arith)) in
+      rw (same-sound room extra s v, q, same-rows room extra (s .table) (v .rows) few) (rw q at unread))
       (λ q. rw (same-sound room extra s v, q))
 
   pub same-look : (p : ℕ) → look.accountAsked (room + extra) big p ≡ look.accountAsked room s p

@@ -1,11 +1,12 @@
 -- Zeros behind words are clear rows and accounts behind the state that the words are, so that room makes no difference. Assumes nothing.
 use mathlib.Core.Path.{_≡_, refl, ap, sym, _∙_}
 use mathlib.Core.Bool.{Bool, true, _&&_}
-use mathlib.Core.List.{List, [], _∷_}
+use mathlib.Core.List.{List, [], _∷_, _++_}
 use Prim.Native.Nat.{ℕ, zero, suc, _+_, _≤_}
 use native.Mathlib.Omega.{arith}
+use borrow.Author.Tests.{eqb-true, eqb-false, eq-eqb, ne-eqb}
 use lib.Dec.{eqb}
-use lib.ListN.{length}
+use lib.ListN.{length, length-append}
 use Rattle.lists.specs.Runs.{Result, end, answers}
 use Rattle.lists.proofs.Tests.{cases, and-true}
 use Rattle.terms.specs.State.{State, sound, Shaped}
@@ -18,11 +19,11 @@ use Rattle.layout.specs.Numbers.{rightNumbers, numbersTable}
 use Rattle.layout.proofs.RoundTrip.{right, words-shaped, state-written-back, words-read-back, length-state}
 use Rattle.layout.proofs.Stores.{same-room, right-stands}
 use Rattle.outcomes.specs.Outcomes.{refusalCode}
-use Rattle.justrave.specs.Exported.{onState, posted, slotted, ran, leaves, started, startedOf, Figured, figured, accountTold, standingTold, Led, led, Wrote, wrote}
+use Rattle.justrave.specs.Exported.{onState, posted, slotted, ran, leaves, started, startedOf, Figured, figured, chainTold, chained, accountTold, standingTold, Led, led, Wrote, wrote}
 use Rattle.on_words.specs.Claims.{Lent, lentCall}
 use Rattle.on_words.specs.Room.{more, Unless-2, stated-more, slotted-more, ran-more, Alike, Any-room, Any-room-in-a-row}
 use Rattle.on_words.proofs.Claims.{slot-shaped, call-shaped, numbers-rows, start-shaped, start-of-numbers-shaped}
-use Rattle.on_words.proofs.Longer.{longer, longer-shaped, longer-words, few-places, same-sound, same-call, same-run, same-figures, same-look, same-standing, same-lead, same-write}
+use Rattle.on_words.proofs.Longer.{longer, longer-shaped, longer-words, few-places, same-sound, same-call, same-run, same-figures, same-chain, same-look, same-standing, same-lead, same-write}
 use Rattle.on_words.proofs.LongerStart.{made-longer, same-start, same-begun, same-numbers, same-count}
 
 -- ---- the calls on words
@@ -59,11 +60,28 @@ module _ (most extra : ℕ) (words : List ℕ) (long : rightLength most words �
       rw more-words (back .0, back .1, rw (back .1) (back .2))
 
   -- what f makes of both ends of a call on the words is what the call on the longer ones comes to
+  on-more-beside : {X : Type 0} (f : X → X) (beside wide : Bool) (down shut : X) (call roomy : ℕ → State → X) → wide ≡ beside → shut ≡ f down
+      → (beside ≡ true → roomy (room + extra) (longer extra held) ≡ f (call room held)) → onState most (more extra words) wide shut roomy ≡ f (onState most words beside down call)
+  unfolding onState
+  on-more-beside f beside wide down shut call roomy same a b =
+      rw (read-more .0, read-more .2, read-more .1, long, same) (cases beside (λ q. rw q (b q)) (λ q. rw q a))
+
+  -- where both are lent the same beside the words
   on-more : {X : Type 0} (f : X → X) (beside : Bool) (down shut : X) (call : ℕ → State → X) → shut ≡ f down
       → call (room + extra) (longer extra held) ≡ f (call room held) → onState most (more extra words) beside shut call ≡ f (onState most words beside down call)
-  unfolding onState
-  on-more f beside down shut call a b =
-      rw (read-more .0, read-more .2, read-more .1, long) (cases beside (λ q. rw q b) (λ q. rw q a))
+  on-more f beside down shut call a b = on-more-beside f beside beside down shut call call refl a (λ q. b)
+
+  -- as many names, and as many more as there are places more
+  same-many : (names past : List ℕ) → length past ≡ extra → eqb (length (names ++ past)) (roomOf (more extra words)) ≡ eqb (length names) room
+  same-many names past more-names = cases (eqb (length names) room)
+      (λ q.
+      let as-many = eqb-true (length names) room q in
+      let wide : length (names ++ past) ≡ roomOf (more extra words) = omega (arith, length-append names past, read-more .1) in
+      eq-eqb (length (names ++ past)) (roomOf (more extra words)) wide ∙ sym q)
+      (λ q.
+      let other = eqb-false (length names) room q in
+      let apart : length (names ++ past) ≡ roomOf (more extra words) → ⊥ = λ e. other (omega (arith, length-append names past, read-more .1)) in
+      ne-eqb (length (names ++ past)) (roomOf (more extra words)) apart ∙ sym q)
 
   -- what a start leaves
   on-leaves : (lengths wide : Bool) (made big : Result State Answer) → wide ≡ lengths → Shaped room (made .state)
@@ -74,7 +92,7 @@ module _ (most extra : ℕ) (words : List ℕ) (long : rightLength most words �
       (λ q. rw q (λ h. refl)))
 
   all-alike : Alike most extra words
-  unfolding started startedOf posted slotted ran figured accountTold standingTold led wrote
+  unfolding started startedOf posted slotted ran figured chained accountTold standingTold led wrote
   all-alike = record {
     post = λ p count. on-more (stated-more extra) true _ _ _ refl
         (rw (same-call room extra held shape (post p count), longer-words room extra (called room held (post p count) .state) (call-shaped room held (post p count) shape)));
@@ -86,6 +104,8 @@ module _ (most extra : ℕ) (words : List ℕ) (long : rightLength most words �
     numbers = λ numbers first. rw (read-more .1, read-more .0, same-count room extra numbers) (on-leaves (rightLength most words && rightNumbers room numbers) (rightNumbers room numbers) _ _ (rw long) (start-of-numbers-shaped room numbers first)
         (λ q h. rw (same-numbers room extra numbers (and-true (rightLength most words) _ q .1)) (same-start room extra (numbersTable room numbers) (numbers-rows room numbers) first h)));
     figures = λ p j old. on-more (λ (x : Figured). x) (eqb (length old) 2) _ _ _ refl (rw (same-figures room extra held shape p j));
+    chain = λ p names past old more-names. on-more-beside (λ (x : Figured). x) (eqb (length old) 1 && eqb (length names) room) _ _ _ _ _ (ap (λ b. eqb (length old) 1 && b) (same-many names past more-names)) refl
+        (λ q. ap (chainTold old) (same-chain room extra held shape p names past (eqb-true (length names) room (and-true (eqb (length old) 1) _ q .1))));
     account = λ p old. on-more (λ (x : Figured). x) (eqb (length old) 2) _ _ _ refl (rw (same-look room extra held shape p));
     standing = λ old. on-more (λ (x : Figured). x) (eqb (length old) 2) _ _ _ refl (rw (same-standing room extra held shape));
     lead = λ p log old. on-more (λ (x : Led). x) (eqb (length old) 1) _ _ _ refl (rw (same-lead room extra held shape p log));

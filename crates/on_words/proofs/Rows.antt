@@ -13,6 +13,7 @@ use Rattle.terms.specs.Figures.{roundedUp, finish, finishVerdict, admissionVerd
 use Rattle.terms.specs.State.{accountsHold, sound, placeVerdict}
 use Rattle.terms.specs.Start.{opening, noState, startVerdict, start}
 use Rattle.terms.specs.Asked.{figuresVerdict, figures}
+use Rattle.terms.specs.Chain.{named, follows, chainTo, chainFigure, nameVerdict, circleVerdict, followingVerdict, chainVerdict, chain}
 use Rattle.terms.specs.Input.{inputVerdict}
 use Rattle.lead_parts.specs.Lead.{leadOf, leadVerdict, leadAsked}
 use Rattle.table_bytes.specs.Reading.{next, fieldRead, rowRead, itemsRead, placesRead, numbersRead, lastVerdict, settled, readTable}
@@ -27,8 +28,8 @@ use Rattle.asking.specs.Look.{accountAsked, standing}
 use Rattle.ordering.specs.Order.{needHolds, lastHolding, filledUp}
 use Rattle.ordered_bytes.specs.OrderBytes.{listedVerdict, orderRead, orderBytes}
 use Rattle.outcomes.specs.Outcomes.{refusalCode}
-use Rattle.justrave.specs.Exported.{onState, posted, slotted, ran, leaves, started, startedOf, figured, accountTold, standingTold, led, wrote, ordered}
-use Rattle.on_words.specs.Rows.{wordsIn, startRows, numberRows, postRows, slotRows, runRows, askedRows, writeRows, lookRows, roomRows, orderRows, lengthRows, Pass, All-pass}
+use Rattle.justrave.specs.Exported.{onState, posted, slotted, ran, leaves, started, startedOf, figured, chained, accountTold, standingTold, led, wrote, ordered}
+use Rattle.on_words.specs.Rows.{wordsIn, startRows, numberRows, postRows, slotRows, runRows, askedRows, chainRows, writeRows, lookRows, roomRows, orderRows, lengthRows, Pass, All-pass}
 
 start-pass : Pass startRows
 unfolding roomOf rightLength placesFrom wordsState stateWords joined paired refusalCode wordsIn total every gate then heldTo rowVerdict eachPlace tailVerdict rateSumVerdict tableVerdict roundedUp finish finishVerdict admissionVerdict tableOf writtenOver opening noState startVerdict start leaves lastGroup combined laterGroups numberOf next fieldRead rowRead itemsRead placesRead numbersRead lastVerdict settled readTable begun started startRows
@@ -54,6 +55,10 @@ asked-pass : Pass askedRows
 unfolding roomOf rightLength placesFrom wordsState stateWords joined paired refusalCode wordsIn total every gate then heldTo rowVerdict eachPlace tailVerdict rateSumVerdict tableVerdict upTo accountsHold sound roundedUp finish placeVerdict figuresVerdict figures inputVerdict leadOf leadVerdict leadAsked onState figured led askedRows
 asked-pass = refl
 
+chain-pass : Pass chainRows
+unfolding roomOf rightLength placesFrom wordsState stateWords joined paired refusalCode wordsIn total every gate then heldTo rowVerdict eachPlace tailVerdict rateSumVerdict tableVerdict upTo accountsHold sound roundedUp finish placeVerdict named follows chainTo chainFigure nameVerdict circleVerdict followingVerdict chainVerdict chain onState chained chainRows
+chain-pass = refl
+
 write-pass : Pass writeRows
 unfolding roomOf rightLength placesFrom wordsState stateWords joined paired refusalCode wordsIn total every gate then heldTo rowVerdict eachPlace tailVerdict rateSumVerdict tableVerdict upTo accountsHold sound roundedUp finish finishVerdict admissionVerdict groupsOf numberBytes writtenOver tableNumbers tableBytes writeVerdict writeTable onState wrote writeRows
 write-pass = refl
@@ -75,4 +80,4 @@ unfolding roomOf rightLength placesFrom wordsState stateWords joined paired refu
 length-pass = refl
 
 pub all-pass : All-pass
-all-pass = (start-pass, number-pass, post-pass, slot-pass, run-pass, asked-pass, write-pass, look-pass, room-pass, order-pass, length-pass, refl)
+all-pass = (start-pass, number-pass, post-pass, slot-pass, run-pass, asked-pass, chain-pass, write-pass, look-pass, room-pass, order-pass, length-pass, refl)

@@ -15,6 +15,7 @@ use Rattle.terms.specs.Table.{Table}
 use Rattle.terms.specs.Answers.{Answer, accepted}
 use Rattle.terms.specs.Start.{start}
 use Rattle.terms.specs.Asked as asked
+use Rattle.terms.specs.Chain as chains
 use Rattle.lead_parts.specs.Lead as leads
 use Rattle.table_bytes.specs.Reading.{readTable}
 use Rattle.table_bytes.specs.Writing as writing
@@ -25,7 +26,7 @@ use Rattle.layout.specs.Numbers.{allNumbers, numbersTable, rightNumbers}
 use Rattle.starts.specs.Starts.{begun}
 use Rattle.asking.specs.Look as look
 use Rattle.outcomes.specs.Outcomes.{answerCode, wrongLength}
-use Rattle.justrave.specs.Exported.{Stated, stated, posted, slotWords, slotStated, slotted, runStated, ran, started, startedOf, figuresTold, figured, lookTold, accountTold, stands, standingTold, leadTold, led, writeTold, wrote}
+use Rattle.justrave.specs.Exported.{Stated, stated, posted, slotWords, slotStated, slotted, runStated, ran, started, startedOf, figuresTold, figured, chainTold, chained, lookTold, accountTold, stands, standingTold, leadTold, led, writeTold, wrote}
 
 -- a state with room for so many places, 1 to the largest N
 pub record Fits (most room : ℕ) (s : State) : Type 0 where
@@ -65,6 +66,12 @@ abbrev pub Figures-by-value : Type 0
 Figures-by-value =
     (most room : ℕ) (s : State) (p j : ℕ) (old : List ℕ) → Fits most room s → length old ≡ 2
     → figured most (stateWords s) p j old ≡ figuresTold old (asked.figures room s p j)
+
+-- as many names are lent as the words have room for places
+abbrev pub Chain-by-value : Type 0
+Chain-by-value =
+    (most room : ℕ) (s : State) (p : ℕ) (names old : List ℕ) → Fits most room s → length old ≡ 1 → length names ≡ room
+    → chained most (stateWords s) p names old ≡ chainTold old (chains.chain room s p names)
 
 abbrev pub Account-by-value : Type 0
 Account-by-value =
@@ -127,7 +134,7 @@ Start-of-numbers-shaped = (room : ℕ) (numbers : List ℕ) (first : ℕ) → Sh
 
 -- ---- 255 and 23
 
--- 255 is the outcome exactly where the lent words, the lent answer or the numbers have a wrong length
+-- 255 is the outcome exactly where the lent words, the lent answer, the numbers or the names have a wrong length
 abbrev pub Exactly-255 : (lengths : Bool) → (outcome : ℕ) → Type 0
 Exactly-255 lengths outcome = (lengths ≡ false → outcome ≡ wrongLength) × (outcome ≡ wrongLength → lengths ≡ false)
 
@@ -139,6 +146,8 @@ pub record Lengths (most : ℕ) (words : List ℕ) : Type 0 where
   pub slot : (old : List ℕ) → Exactly-255 (rightLength most words && eqb (length old) 2) (slotted most words old .outcome)
   pub run : (log : List ℕ) → Exactly-255 (rightLength most words) (ran most words log .outcome)
   pub figures : (p j : ℕ) (old : List ℕ) → Exactly-255 (rightLength most words && eqb (length old) 2) (figured most words p j old .outcome)
+  pub chain : (p : ℕ) (names old : List ℕ)
+      → Exactly-255 (rightLength most words && (eqb (length old) 1 && eqb (length names) (roomOf words))) (chained most words p names old .outcome)
   pub account : (p : ℕ) (old : List ℕ) → Exactly-255 (rightLength most words && eqb (length old) 2) (accountTold most words p old .outcome)
   pub standing : (old : List ℕ) → Exactly-255 (rightLength most words && eqb (length old) 2) (standingTold most words old .outcome)
   pub lead : (p : ℕ) (log : List ℕ) (old : List ℤ) → Exactly-255 (rightLength most words && eqb (length old) 1) (led most words p log old .outcome)
@@ -153,6 +162,7 @@ pub record Broken (most : ℕ) (words : List ℕ) : Type 0 where
   pub slot : (old : List ℕ) → length old ≡ 2 → slotted most words old .outcome ≡ 23
   pub run : (log : List ℕ) → ran most words log .outcome ≡ 23
   pub figures : (p j : ℕ) (old : List ℕ) → length old ≡ 2 → figured most words p j old .outcome ≡ 23
+  pub chain : (p : ℕ) (names old : List ℕ) → length old ≡ 1 → length names ≡ roomOf words → chained most words p names old .outcome ≡ 23
   pub account : (p : ℕ) (old : List ℕ) → length old ≡ 2 → accountTold most words p old .outcome ≡ 23
   pub standing : (old : List ℕ) → length old ≡ 2 → standingTold most words old .outcome ≡ 23
   pub lead : (p : ℕ) (log : List ℕ) (old : List ℤ) → length old ≡ 1 → led most words p log old .outcome ≡ 23
@@ -184,6 +194,11 @@ Run-refused =
 abbrev pub Figures-refused : Type 0
 Figures-refused =
     (most : ℕ) (words : List ℕ) (p j : ℕ) (old : List ℕ) → let r = figured most words p j old in
+    Refused (r .outcome) → r .answer ≡ old
+
+abbrev pub Chain-refused : Type 0
+Chain-refused =
+    (most : ℕ) (words : List ℕ) (p : ℕ) (names old : List ℕ) → let r = chained most words p names old in
     Refused (r .outcome) → r .answer ≡ old
 
 abbrev pub Account-refused : Type 0

@@ -8,11 +8,11 @@ use mathlib.Core.Bool.{true}
 use mathlib.Core.List.{List, _++_}
 use Prim.Native.Nat.{ℕ, _+_, _*_, _≤_}
 use lib.IntN.{ℤ}
-use lib.ListN.{replicate}
+use lib.ListN.{length, replicate}
 use Rattle.lists.specs.Runs.{end, answers}
 use Rattle.rule.specs.Calls.{Call}
 use Rattle.layout.specs.Words.{roomOf, rightLength}
-use Rattle.justrave.specs.Exported.{Stated, posted, Slotted, slotted, Ran, ran, started, startedOf, figured, accountTold, standingTold, led, wrote}
+use Rattle.justrave.specs.Exported.{Stated, posted, Slotted, slotted, Ran, ran, started, startedOf, figured, chained, accountTold, standingTold, led, wrote}
 use Rattle.on_words.specs.Claims.{Lent, lentCall}
 
 -- the words with room for so many places more
@@ -48,6 +48,8 @@ pub record Alike (most extra : ℕ) (words : List ℕ) : Type 0 where
       → Unless-2 extra (startedOf most numbers first words) (startedOf most (moreNumbers extra numbers) first (more extra words))
   -- the questions
   pub figures : (p j : ℕ) (old : List ℕ) → figured most (more extra words) p j old ≡ figured most words p j old
+  -- each further place has a name, and whatever these are makes no difference
+  pub chain : (p : ℕ) (names past old : List ℕ) → length past ≡ extra → chained most (more extra words) p (names ++ past) old ≡ chained most words p names old
   pub account : (p : ℕ) (old : List ℕ) → accountTold most (more extra words) p old ≡ accountTold most words p old
   pub standing : (old : List ℕ) → standingTold most (more extra words) old ≡ standingTold most words old
   pub lead : (p : ℕ) (log : List ℕ) (old : List ℤ) → led most (more extra words) p log old ≡ led most words p log old

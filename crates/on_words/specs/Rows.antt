@@ -8,7 +8,7 @@ use lib.IntN.{ℤ, pos, negsuc}
 use lib.ListN.{replicate}
 use Rattle.terms.specs.Limits.{maxPlaces, maxSlot}
 use Rattle.layout.specs.Words.{wordCount}
-use Rattle.justrave.specs.Exported.{sizeOf, Stated, started, startedOf, posted, Slotted, slotted, Ran, ran, Figured, figured, accountTold, standingTold, Led, led, Wrote, wrote, ordered}
+use Rattle.justrave.specs.Exported.{sizeOf, Stated, started, startedOf, posted, Slotted, slotted, Ran, ran, Figured, figured, chained, accountTold, standingTold, Led, led, Wrote, wrote, ordered}
 
 -- ---- words
 
@@ -109,6 +109,12 @@ running words log after bytes o = record {
 abbrev pub figuring : (words : List ℕ) (place j : ℕ) (old : List ℕ) → (answer : List ℕ) (outcome : ℕ) → Row
 figuring words p j old answer o = record {
   asked = figured-as (figured maxPlaces words p j old);
+  written = figured-as (record { answer = answer; outcome = o });
+}
+
+abbrev pub chaining : (words : List ℕ) (place : ℕ) (names old : List ℕ) → (answer : List ℕ) (outcome : ℕ) → Row
+chaining words p names old answer o = record {
+  asked = figured-as (chained maxPlaces words p names old);
   written = figured-as (record { answer = answer; outcome = o });
 }
 
@@ -260,6 +266,30 @@ lookRows =
     ∷ standing wide (90 ∷ 91 ∷ 92 ∷ []) (90 ∷ 91 ∷ 92 ∷ []) 255
     ∷ []
 
+-- as many names as there is room for places, and these for T's two
+abbrev pub namesT : (first second : ℕ) → List ℕ
+namesT first second = first ∷ second ∷ replicate (maxPlaces - 2) 7
+
+unfoldable pub chainRows : List Row
+chainRows =
+    -- place 1 follows place 0: 4 + 7; place 0 follows nobody. The names past T's places are not read
+    chaining fresh 1 (namesT 255 0) (90 ∷ []) (11 ∷ []) 0
+    ∷ chaining fresh 0 (namesT 255 0) (90 ∷ []) (4 ∷ []) 0
+    -- refused 16 at place 1 is 16 + 256 × 2; place 2 is refused 11, asked for or followed, and 11 is ahead of 16
+    ∷ chaining fresh 0 (namesT 255 1) (90 ∷ []) (90 ∷ []) 528
+    ∷ chaining fresh 2 (namesT 255 0) (90 ∷ []) (90 ∷ []) 11
+    ∷ chaining fresh 1 (namesT 0 2) (90 ∷ []) (90 ∷ []) 11
+    ∷ chaining wide 2 (namesT 0 2) (90 ∷ []) (90 ∷ []) 23
+    -- one name fewer or more, an answer of two words, or one word more is 255, ahead of all else
+    ∷ chaining fresh 1 (255 ∷ 0 ∷ replicate (maxPlaces - 3) 7) (90 ∷ []) (90 ∷ []) 255
+    ∷ chaining wide 1 (255 ∷ 0 ∷ replicate (maxPlaces - 1) 7) (90 ∷ []) (90 ∷ []) 255
+    ∷ chaining fresh 1 (namesT 255 0) (90 ∷ 91 ∷ []) (90 ∷ 91 ∷ []) 255
+    ∷ chaining (fresh ++ 0 ∷ []) 1 (namesT 255 0) (90 ∷ []) (90 ∷ []) 255
+    -- in room for two places there are two names
+    ∷ chaining (wordsIn 2 1 0 8 3 4 3) 1 (255 ∷ 0 ∷ []) (90 ∷ []) (11 ∷ []) 0
+    ∷ chaining (wordsIn 2 1 0 8 3 4 3) 1 (namesT 255 0) (90 ∷ []) (90 ∷ []) 255
+    ∷ []
+
 -- room for two places, or for three, is as good as room for 16; with room for one there is no T
 unfoldable pub roomRows : List Row
 roomRows =
@@ -329,4 +359,4 @@ abbrev pub Pass : List Row → Type 0
 Pass rows = map (λ r. r .asked) rows ≡ map (λ r. r .written) rows
 
 abbrev pub All-pass : Type 0
-All-pass = Pass startRows × Pass numberRows × Pass postRows × Pass slotRows × Pass runRows × Pass askedRows × Pass writeRows × Pass lookRows × Pass roomRows × Pass orderRows × Pass lengthRows × Sizes
+All-pass = Pass startRows × Pass numberRows × Pass postRows × Pass slotRows × Pass runRows × Pass askedRows × Pass chainRows × Pass writeRows × Pass lookRows × Pass roomRows × Pass orderRows × Pass lengthRows × Sizes

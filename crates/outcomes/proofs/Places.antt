@@ -6,6 +6,7 @@ use mathlib.Core.Option as option
 use mathlib.Core.Option.{Option}
 use Prim.Native.Nat.{ℕ, zero, suc, _+_, _≤_, _<_}
 use native.Mathlib.Omega.{arith}
+use borrow.Author.Tests.{eqb-true}
 use lib.Dec.{ltb, leb, eqb}
 use lib.IntN.{ℤ}
 use lib.ListN.{length, take, drop, length-take}
@@ -29,8 +30,10 @@ use Rattle.terms.specs.Figures.{finish, finishVerdict, finishesVerdict, admissi
 use Rattle.terms.specs.Input.{inputVerdict}
 use Rattle.terms.specs.Start.{opening, noState, startVerdict, start, turnedDown}
 use Rattle.terms.specs.Asked as asked
+use Rattle.terms.specs.Chain as chains
 use Rattle.terms.proofs.Checks.{held-open, fair}
 use Rattle.terms.proofs.Sound.{place-open, sound-table}
+use Rattle.terms.proofs.Chain.{chain-refused}
 use Rattle.terms.specs.TableResult.{TableResult, accept, refuse}
 use Rattle.table_bytes.specs.Reading.{Read, read, stop, next, readAs, numberRead, fieldRead, rowRead, itemsRead, rowsRead, placesRead, numbersRead, leftVerdict, lastVerdict, settled, readTable}
 use Rattle.table_bytes.specs.Writing as writing
@@ -46,7 +49,7 @@ use Rattle.ordering.specs.Order.{found, orderOf}
 use Rattle.ordered_bytes.specs.OrderBytes.{listedVerdict, orderRead, orderBytes}
 use Rattle.asking.specs.Look as look
 use Rattle.outcomes.specs.Outcomes.{placeCode, refusalCode}
-use Rattle.outcomes.specs.Places.{known, ofAnOrder, ofAnyCall, placed, ToldOf, Told, Code-tells, Code-apart, Start-names-below, Table-start-names-below, Calls-name-below, Runs-name-below, Leads-name-below, Figures-name-below, Write-names-below, Orders-name-below, Looks-name-below, Standings-name-below}
+use Rattle.outcomes.specs.Places.{known, ofAnOrder, ofAChain, ofAnyCall, placed, ToldOf, Told, Code-tells, Code-apart, Start-names-below, Table-start-names-below, Calls-name-below, Runs-name-below, Leads-name-below, Figures-name-below, Chains-name-below, Write-names-below, Orders-name-below, Looks-name-below, Standings-name-below}
 
 -- ---- refusals by their number
 
@@ -57,13 +60,21 @@ module _ {numbers : ℕ → Bool} where
   at-place : (limit n p : ℕ) → numbers n ≡ true → true ≡ placed n → p < limit → ToldOf numbers limit (refusalAt n p)
   at-place limit n p e some h = record { number = e; names = some; origin = refl; place = h }
 
--- a start's or that of a call on a state, and an ordering's, is any call's
+-- a start's or that of a call on a state, an ordering's and a chain figure's, is any call's
 pub known-any : {limit : ℕ} {r : Refusal} → Told limit r → ToldOf ofAnyCall limit r
 known-any {limit} {r} t = record { number = rw (t .number); names = t .names; origin = t .origin; place = t .place }
 
 pub order-any : {limit : ℕ} {r : Refusal} → ToldOf ofAnOrder limit r → ToldOf ofAnyCall limit r
 order-any {limit} {r} t = record {
-  number = cases (known (r .number)) (λ on. rw on) (λ off. rw off (t .number));
+  number = cases (known (r .number)) (λ on. rw on) (λ off. rw (off, t .number));
+  names = t .names;
+  origin = t .origin;
+  place = t .place;
+}
+
+pub chain-any : {limit : ℕ} {r : Refusal} → ToldOf ofAChain limit r → ToldOf ofAnyCall limit r
+chain-any {limit} {r} t = record {
+  number = cases (known (r .number)) (λ on. rw on) (λ off. cases (ofAnOrder (r .number)) (λ on. rw (off, on)) (λ out. rw (off, out) (t .number)));
   names = t .names;
   origin = t .origin;
   place = t .place;
@@ -81,8 +92,15 @@ order-range n e = cases (inRange 1 6 n)
     (λ middle. let m = in-range-true 8 10 n middle in (omega (arith, m .0), omega (arith, m .1)))
     (λ high. let h = in-range-true 14 15 n (rw (more, high) at e) in (omega (arith, h .0), omega (arith, h .1))))
 
+chain-range : (n : ℕ) → ofAChain n ≡ true → (1 ≤ n) × (n ≤ 23)
+chain-range n e = cases (eqb n 11)
+    (λ low. let z = eqb-true n 11 low in (omega arith, omega arith))
+    (λ more. cases (eqb n 16)
+    (λ middle. let z = eqb-true n 16 middle in (omega arith, omega arith))
+    (λ high. let z = eqb-true n 23 (rw (more, high) at e) in (omega arith, omega arith)))
+
 any-range : (n : ℕ) → ofAnyCall n ≡ true → (1 ≤ n) × (n ≤ 23)
-any-range n e = cases (known n) (known-range n) (λ off. order-range n (rw off at e))
+any-range n e = cases (known n) (known-range n) (λ off. cases (ofAnOrder n) (order-range n) (λ out. chain-range n (rw (off, out) at e)))
 
 place-same : (x y : Named) → placeCode x ≡ placeCode y → x ≡ y
 place-same named.Nowhere named.Nowhere e = refl
@@ -356,9 +374,16 @@ runs-name-below limit s log r e =
     by faultless h f = let z : _≡_ {A = ℕ} 0 1 = cc in absurd (omega arith)
     by (fault q) h f = let same : q ≡ r = cc in rw same at (h q refl)
 
-refuses-asked : (limit : ℕ) (s : State) (p : ℕ) → Refuses (Told limit) (placeVerdict limit s p)
+refuses-place : (P : Refusal → Type 0) → P (refusal 23) → P (refusal 11) → (limit : ℕ) (s : State) (p : ℕ) → Refuses P (placeVerdict limit s p)
 unfolding placeVerdict
-refuses-asked limit s p = refuses-gate (Told limit) (refusal 23) (sound limit s) _ (plain limit 23 refl refl) (refuses-gate (Told limit) (refusal 11) (ltb p (s .table .count)) faultless (plain limit 11 refl refl) (refuses-none (Told limit)))
+refuses-place P unsound absent limit s p = refuses-gate P (refusal 23) (sound limit s) _ unsound (refuses-gate P (refusal 11) (ltb p (s .table .count)) faultless absent (refuses-none P))
+
+refuses-asked : (limit : ℕ) (s : State) (p : ℕ) → Refuses (Told limit) (placeVerdict limit s p)
+refuses-asked limit = refuses-place (Told limit) (plain limit 23 refl refl) (plain limit 11 refl refl) limit
+
+-- past 23 and 11 there is room for as many places as the table has
+few-places : (limit : ℕ) (s : State) (p : ℕ) → placeVerdict limit s p ≡ faultless → s .table .count ≤ limit
+few-places limit s p ok = fair limit (s .table) (sound-table limit s (place-open limit s p ok .0)) .count-most
 
 pub figures-name-below : Figures-name-below
 unfolding asked.figures asked.figuresVerdict
@@ -367,11 +392,27 @@ figures-name-below limit s p j r e =
     (refuses-then (Told limit) (placeVerdict limit s p) _ (refuses-asked limit s p) (λ ok. refuses-held (Told limit) (needBounds p) j (at-place limit 5 p refl refl (few ok)))) e
   where
     few : placeVerdict limit s p ≡ faultless → p < limit
-    few ok = let a = place-open limit s p ok in omega (arith, a .1, fair limit (s .table) (sound-table limit s (a .0)) .count-most)
+    few ok = omega (arith, place-open limit s p ok .1, few-places limit s p ok)
 
     by : (x y : ℕ) (v : Verdict) → Refuses (Told limit) v → resolve v (asked.figured x y) asked.refused ≡ asked.refused r → Told limit r
     by x y faultless h f = let z : _≡_ {A = ℕ} 0 1 = cc in absurd (omega arith)
     by x y (fault q) h f = let same : q ≡ r = cc in rw same at (h q refl)
+
+-- a chain figure: 23 and 11, then 11 of each name and 16 of each place
+abbrev ChainTold : ℕ → Refusal → Type 0
+ChainTold limit r = ToldOf ofAChain limit r
+
+pub chains-name-below : Chains-name-below
+unfolding chains.chainVerdict chains.followingVerdict chains.nameVerdict chains.circleVerdict
+chains-name-below limit s p names r e =
+    refuses-then (ChainTold limit) (placeVerdict limit s p) _ (refuses-place (ChainTold limit) (plain limit 23 refl refl) (plain limit 11 refl refl) limit s p) (λ ok.
+    refuses-then (ChainTold limit) (chains.namesVerdict (s .table) names) _
+    (refuses-each (ChainTold limit) limit (chains.nameVerdict (s .table .count) names) (λ q x h. refuses-gate (ChainTold limit) (refusal 11) _ faultless (plain limit 11 refl refl) (refuses-none (ChainTold limit))) 0 (requestorsOf (s .table)) (few ok))
+    (λ there. refuses-each (ChainTold limit) limit (chains.circleVerdict (s .table .count) names) (λ q x h. refuses-gate (ChainTold limit) (refusalAt 16 q) _ faultless (at-place limit 16 q refl refl h) (refuses-none (ChainTold limit))) 0 (requestorsOf (s .table)) (few ok)))
+    r (chain-refused limit s p names r e)
+  where
+    few : placeVerdict limit s p ≡ faultless → 0 + length (requestorsOf (s .table)) ≤ limit
+    few ok = few-rows limit (s .table .count) (s .table .requestors) (few-places limit s p ok)
 
 pub leads-name-below : Leads-name-below
 unfolding leads.leadAsked leads.leadVerdict

@@ -1,5 +1,6 @@
--- A refusal of any call has one of the papers' numbers, the cause that goes with it, and a place exactly where it is 3, 4, 5 or 7: one that
--- there is room for. So an outcome tells the refusal; 0 is no refusal, and 255 is none of theirs. An ordering has numbers of its own.
+-- A refusal of any call has one of the papers' numbers, the cause that goes with it, and a place exactly where it is 3, 4, 5, 7 or 16: one
+-- that there is room for. So an outcome tells the refusal; 0 is no refusal, and 255 is none of theirs. An ordering and a chain figure have
+-- numbers of their own.
 use mathlib.Core.Path.{_≡_}
 use mathlib.Core.Bool.{Bool, true, false}
 use lib.Dec.{eqb}
@@ -15,6 +16,7 @@ use Rattle.terms.specs.Refusals.{originOf}
 use Rattle.terms.specs.Answers.{refused}
 use Rattle.terms.specs.Start.{start}
 use Rattle.terms.specs.Asked as asked
+use Rattle.terms.specs.Chain as chains
 use Rattle.lead_parts.specs.Lead as leads
 use Rattle.table_bytes.specs.Reading.{readTable}
 use Rattle.table_bytes.specs.Writing as writing
@@ -29,7 +31,7 @@ abbrev pub Below : ℕ → Named → Type 0
 Below limit named.Nowhere = Unit {0}
 Below limit (named.Place p) = p < limit
 
--- the numbers of a start's refusals and of those of a call on a state: 1 to 14 and 21 to 23
+-- the numbers of a start's refusals and of those of any other call on a state: 1 to 14 and 21 to 23
 abbrev pub known : ℕ → Bool
 known n = pick (inRange 1 14 n) true (inRange 21 23 n)
 
@@ -37,13 +39,17 @@ known n = pick (inRange 1 14 n) true (inRange 21 23 n)
 abbrev pub ofAnOrder : ℕ → Bool
 ofAnOrder n = pick (inRange 1 6 n) true (pick (inRange 8 10 n) true (inRange 14 15 n))
 
+-- of a chain figure's: 11, 16 and 23
+abbrev pub ofAChain : ℕ → Bool
+ofAChain n = pick (eqb n 11) true (pick (eqb n 16) true (eqb n 23))
+
 -- of any call's
 abbrev pub ofAnyCall : ℕ → Bool
-ofAnyCall n = pick (known n) true (ofAnOrder n)
+ofAnyCall n = pick (known n) true (pick (ofAnOrder n) true (ofAChain n))
 
 -- those that name a place
 abbrev pub placed : ℕ → Bool
-placed n = pick (inRange 3 5 n) true (eqb n 7)
+placed n = pick (inRange 3 5 n) true (pick (eqb n 7) true (eqb n 16))
 
 abbrev pub namesPlace : Named → Bool
 namesPlace named.Nowhere = false
@@ -87,6 +93,10 @@ Leads-name-below =
 
 abbrev pub Figures-name-below : Type 0
 Figures-name-below = (limit : ℕ) (s : State) (p j : ℕ) (r : Refusal) → asked.figures limit s p j ≡ asked.refused r → Told limit r
+
+abbrev pub Chains-name-below : Type 0
+Chains-name-below =
+    (limit : ℕ) (s : State) (p : ℕ) (names : List ℕ) (r : Refusal) → chains.chain limit s p names ≡ chains.refused r → ToldOf ofAChain limit r
 
 abbrev pub Write-names-below : Type 0
 Write-names-below =

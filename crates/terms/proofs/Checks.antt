@@ -2,6 +2,7 @@
 use mathlib.Core.Path.{_≡_, refl, ap, sym, _∙_}
 use mathlib.Core.Bool.{Bool, true, false}
 use mathlib.Core.List.{List, [], _∷_}
+use mathlib.Core.Logic.{_⊎_, inl, inr}
 use Prim.Native.Nat.{ℕ, zero, suc, _+_, _*_, _≤_, _<_}
 use native.Mathlib.Nat.{mul-le-mul-right, not-suc-le-zero, zero-add, add-zero, add-suc, suc-add}
 use native.Mathlib.Omega.{arith}
@@ -30,6 +31,12 @@ pub then-open : (v rest : Verdict) → then v rest ≡ faultless → (v ≡ faul
 unfolding then
 then-open faultless rest e = (refl, e)
 then-open (fault r) rest e = faultless-fault r (sym e)
+
+-- a fault is that of the one series of checks or, if that passes, of the other
+pub then-fault : (v rest : Verdict) (r : Refusal) → then v rest ≡ fault r → (v ≡ fault r) ⊎ ((v ≡ faultless) × (rest ≡ fault r))
+unfolding then
+then-fault faultless rest r e = inr (refl, e)
+then-fault (fault x) rest r e = inl e
 
 -- a check whose refusal has another number does not find this one
 pub gate-not : (r other : Refusal) (test : Bool) (rest : Verdict) → (r .number ≡ other .number → ⊥) → (rest ≡ fault other → ⊥)
@@ -81,6 +88,37 @@ at-each-place check p [] h = refl
 at-each-place check p (r ∷ rs) h =
     let here : check p r ≡ faultless = rw add-zero at (h 0 (omega arith)) in
     rw here (at-each-place check (suc p) rs (λ i l. rw (suc-add, ← add-suc) (h (suc i) (omega arith))))
+
+-- checks that agree at each place find the same
+pub each-place-same : (check other : ℕ → Requestor → Verdict) (p : ℕ) (rs : List Requestor)
+    → ((i : ℕ) → i < length rs → (r : Requestor) → check (p + i) r ≡ other (p + i) r) → eachPlace check p rs ≡ eachPlace other p rs
+unfolding eachPlace
+each-place-same check other p [] h = refl
+each-place-same check other p (r ∷ rs) h =
+    let here : check p r ≡ other p r = rw add-zero at (h 0 (omega arith) r) in
+    rw (here, each-place-same check other (suc p) rs (λ i l x. rw (suc-add, ← add-suc) (h (suc i) (omega arith) x)))
+
+-- a fault that is found place by place is that of one place, and the places before it pass
+pub record FirstFault (check : ℕ → Requestor → Verdict) (p : ℕ) (rs : List Requestor) (r : Refusal) : Type 0 where
+  pub at : ℕ
+  pub inside : at < length rs
+  pub found : check (p + at) (requestorAt at rs) ≡ fault r
+  pub before : (i : ℕ) → i < at → check (p + i) (requestorAt i rs) ≡ faultless
+
+pub each-place-fault : (check : ℕ → Requestor → Verdict) (p : ℕ) (rs : List Requestor) (r : Refusal) → eachPlace check p rs ≡ fault r → FirstFault check p rs r
+unfolding eachPlace then
+each-place-fault check p [] r e = faultless-fault r e
+each-place-fault check p (x ∷ rs) r e = go (check p x) refl (each-place-fault check (suc p) rs r)
+  where
+    go : (v : Verdict) → check p x ≡ v → (eachPlace check (suc p) rs ≡ fault r → FirstFault check (suc p) rs r) → FirstFault check p (x ∷ rs) r
+    go (fault why) fails rest = record { at = 0; inside = omega arith; found = rw add-zero (fails ∙ (rw fails at e)); before = λ i h. absurd (not-suc-le-zero h) }
+    go faultless passes rest =
+        let f = rest (rw passes at e) in
+        record { at = suc (f .at); inside = omega (arith, f .inside); found = rw (add-suc, ← suc-add) (f .found); before = ahead (f .at) (f .before) }
+      where
+        ahead : (at : ℕ) → ((i : ℕ) → i < at → check (suc p + i) (requestorAt i rs) ≡ faultless) → (i : ℕ) → i < suc at → check (p + i) (requestorAt i (x ∷ rs)) ≡ faultless
+        ahead at before zero h = rw add-zero passes
+        ahead at before (suc i) h = rw (add-suc, ← suc-add) (before i (omega arith))
 
 -- a row within its limits
 pub record Row (d : ℕ) (r : Requestor) : Type 0 where

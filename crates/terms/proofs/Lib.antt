@@ -1,4 +1,4 @@
--- Laws that belong to no one function: refusals, checks, tables made of their rows, walks over places, sums above a place, figures, and sound states.
+-- Laws that belong to no one function: refusals, checks, tables made of their rows, walks over places, sums above a place, figures, sound states, and chains.
 pub mod Causes
 pub mod Checks
 pub mod Tables
@@ -7,3 +7,4 @@ pub mod Places
 pub mod Above
 pub mod Figures
 pub mod Sound
+pub mod Chain

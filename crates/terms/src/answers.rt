@@ -36,6 +36,12 @@ pub enum FiguresAnswer {
     Refused(Cause),
 }
 
+// The chain figure, in slots, or why there is none.
+pub enum ChainAnswer {
+    Figure(Slots),
+    Refused(Cause),
+}
+
 // The lead, or why there is none.
 pub enum LeadAnswer {
     Lead(i64),

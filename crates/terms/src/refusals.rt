@@ -2,7 +2,7 @@
 ghost use mathlib.Core.Path.{_≡_};
 ghost use Rattle.terms.specs.Refusals.{inputNumber, inputPlace, stateNumber, refusalOf, verdictOf, then};
 
-// Refusals 1 to 15. Those that name a place hold it.
+// Refusals 1 to 16. Those that name a place hold it.
 pub enum InputRefusal {
     Denominator,
     Count,
@@ -19,6 +19,7 @@ pub enum InputRefusal {
     TooLong,
     BufferShort,
     NoOrder,
+    Circle(usize),
 }
 
 // Refusals 21 to 23.
@@ -78,6 +79,7 @@ fn input_number(i: InputRefusal) -> u32
         InputRefusal::TooLong => 13,
         InputRefusal::BufferShort => 14,
         InputRefusal::NoOrder => 15,
+        InputRefusal::Circle(_) => 16,
     }
 }
 
@@ -89,6 +91,7 @@ fn input_place(i: InputRefusal) -> Named
         InputRefusal::Burst(p) => Named::Place(p),
         InputRefusal::Need(p) => Named::Place(p),
         InputRefusal::Finish(p) => Named::Place(p),
+        InputRefusal::Circle(p) => Named::Place(p),
         InputRefusal::Denominator => Named::Nowhere,
         InputRefusal::Count => Named::Nowhere,
         InputRefusal::RateSum => Named::Nowhere,

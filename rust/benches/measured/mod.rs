@@ -88,13 +88,39 @@ impl List {
     }
 }
 
+/// Who follows whom where a chain figure is asked for.
+#[derive(Clone, Copy)]
+enum Following {
+    /// Nobody: the chain is one place, and each walk ends at once.
+    Nobody,
+    /// Each place the one above it: the chain of the last is all places, and the walks are as long as they can be.
+    All,
+}
+
+impl Following {
+    fn name(self) -> &'static str {
+        match self {
+            Following::Nobody => "nobody follows",
+            Following::All => "of all places",
+        }
+    }
+
+    fn followed(self, place: usize) -> Option<usize> {
+        match self {
+            Following::Nobody => None,
+            Following::All => place.checked_sub(1),
+        }
+    }
+}
+
 /// N = 1, 4 and 16, first with room for 16 places, where the model looks at 16 too, and then with room for exactly N, where it looks at
-/// these. Then post and slot with room for exactly N once more, beside a model that is not compiled for this number. Last orders, which
-/// are lent no state and always have room for 16.
+/// these. Then post and slot with room for exactly N once more, beside a model that is not compiled for this number. Then orders, which
+/// are lent no state and always have room for 16. Last chains of 16 places.
 pub fn all() -> Vec<Case> {
     let rooms = [in_room::<16>(1), in_room::<16>(4), in_room::<16>(16), in_room::<1>(1), in_room::<4>(4)];
     let slices = [beside_slice::<1>(), beside_slice::<4>(), beside_slice::<16>()];
-    rooms.into_iter().chain(slices).flatten().chain(all_orders()).collect()
+    let chains = [Following::Nobody, Following::All].map(chains::<16>);
+    rooms.into_iter().chain(slices).flatten().chain(all_orders()).chain(chains).collect()
 }
 
 /// One requestor can be listed in one way only.
@@ -266,15 +292,11 @@ fn starts_from_numbers<const ROOM: usize>(places: usize) -> Case {
     }
 }
 
-/// Equal shares, and to each need the slots of one place, so that one order passes. The slots are worked out here: one more caller of
-/// the model's figure, and it would be compiled in another way where starts are measured.
+/// Equal shares, and to each need the slots of one place, so that one order passes.
 fn list_bytes(places: usize, list: List) -> Vec<u8> {
     let mut table = table::<MAX_PLACES>(places);
-    let (mut above, mut left) = (0, table.denominator);
-    for row in &mut table.requestors[..places] {
-        row.within = (above * row.rate + row.need * table.denominator * left).div_ceil(left * row.rate);
-        above += row.burst;
-        left -= row.rate;
+    for place in 0..places {
+        table.requestors[place].within = table.finish(place, table.requestors[place].need);
     }
     match list {
         List::Right => {}
@@ -299,6 +321,26 @@ fn orders(places: usize, list: List) -> Case {
         model: Box::new(move |many| {
             let mut buffer = [0xA5; Arbiter::TABLE_ROOM];
             timed(many, || model::order(black_box(&also), black_box(&mut buffer)).expect("an order passes"))
+        }),
+    }
+}
+
+/// The figure of the last place, with the wrapper's part of it: the product takes a byte for each place, and the model what the wrapper is
+/// given.
+fn chains<const N: usize>(following: Following) -> Case {
+    let follows: [Option<usize>; N] = std::array::from_fn(|place| following.followed(place));
+    Case {
+        call: format!("chain, {}", following.name()),
+        places: N,
+        room: N,
+        many: BATCH,
+        product: Box::new(move |many| {
+            let line = product::<N>(N, Load::Idle);
+            timed(many, || black_box(&line).chain(N - 1, black_box(&follows)).expect("the chain ends"))
+        }),
+        model: Box::new(move |many| {
+            let line = model::<N>(N, Load::Idle);
+            timed(many, || black_box(&line).chain(N - 1, black_box(&follows)).expect("the chain ends"))
         }),
     }
 }

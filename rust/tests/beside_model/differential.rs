@@ -117,6 +117,7 @@ fn expect_all_but_23(tally: &Tally) {
     tally.expect("slot", &[0, 22]);
     tally.expect("run", &[0, 13, 22]);
     tally.expect("figures", &[0, 5, 11]);
+    tally.expect("chain", &[0, 11, 16]);
     tally.expect("lead", &[0, 11, 13]);
     tally.expect("account", &[0, 11]);
     tally.expect("standing", &[0]);

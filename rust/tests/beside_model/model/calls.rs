@@ -98,7 +98,7 @@ impl<const PLACES: usize> State<PLACES> {
     }
 
     /// 23.
-    fn check(&self) -> Result<(), Fault> {
+    pub(super) fn check(&self) -> Result<(), Fault> {
         pass(self.table.check_numbers().is_ok() && self.slot <= MAX_SLOT && self.accounts_are_sound(), 23)
     }
 
@@ -119,7 +119,7 @@ impl<const PLACES: usize> State<PLACES> {
         })
     }
 
-    fn check_place(&self, place: usize) -> Result<(), Fault> {
+    pub(super) fn check_place(&self, place: usize) -> Result<(), Fault> {
         pass((place as u64) < self.table.count, 11)
     }
 

@@ -3,6 +3,7 @@
 
 mod bytes;
 mod calls;
+mod chain;
 mod order;
 mod table;
 

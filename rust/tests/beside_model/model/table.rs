@@ -102,7 +102,9 @@ impl<const PLACES: usize> Table<PLACES> {
         self.bursts_above(place).div_ceil(self.rate_left(place))
     }
 
-    /// The finish figure for so many transfers: the fractions B / R and j D / n, summed and then rounded up.
+    /// The finish figure for so many transfers: the fractions B / R and j D / n, summed and then rounded up. It is compiled into each of
+    /// its callers, so that a start that is measured does not depend on who else asks for the figure.
+    #[inline(always)]
     pub fn finish(&self, place: usize, transfers: u64) -> u64 {
         let (left, rate) = (self.rate_left(place), self.requestors[place].rate);
         (self.bursts_above(place) * rate + transfers * self.denominator * left).div_ceil(left * rate)

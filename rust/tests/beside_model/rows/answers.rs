@@ -27,6 +27,7 @@ pub fn told(row: &Row) -> String {
         Call::Run => run(row),
         Call::Lead => lead(row),
         Call::Figures => figures(row),
+        Call::Chain => chain(row),
         Call::State => state(row),
         Call::AllCalls => {
             refusals(row, row.number("place"), row.number("count"), row.number("for"), row.number("length"))
@@ -237,6 +238,24 @@ fn figures(row: &Row) -> String {
     match arbiter(row).figures(row.number("place") as usize, Transfers(row.number("for"))) {
         Ok(figures) => format!("wait {} finish {}", figures.wait, figures.finish),
         Err(refusal) => refused(refusal),
+    }
+}
+
+/// Through the exported function, which can be lent any number of names.
+fn chain(row: &Row) -> String {
+    let (words, names) = (words_of(&row.state()), row.names());
+    let (mut state, mut following, mut answer) = (words.clone(), names.clone(), [u64::MAX]);
+    let (of, by, to) = (state.as_mut_ptr(), following.as_mut_ptr(), answer.as_mut_ptr());
+    let place = row.number("place") as usize;
+    // SAFETY: all three have their lengths behind them, and are of this function.
+    let outcome = unsafe { sys::justrave_chain(of, words.len(), place, by, names.len(), to, 1) };
+    assert_eq!((state, following), (words, names), "state and names are only read");
+    match answer_of(outcome) {
+        Ok(()) => format!("figure {}", answer[0]),
+        Err(refusal) => {
+            assert_eq!(answer, [u64::MAX], "a refused chain wrote its answer");
+            refused(refusal)
+        }
     }
 }
 

@@ -32,7 +32,7 @@ fn each_row_through_the_exported_functions() {
     for call in Call::ALL {
         assert!(counts.contains_key(call.name()), "there is no row of {}", call.name());
     }
-    assert!(all >= 472, "of the first 472 rows only {all} are there");
+    assert!(all >= 623, "of the first 623 rows only {all} are there");
 }
 
 #[test]
@@ -55,6 +55,11 @@ fn lines_that_are_no_rows() {
         "order T room 10: ordered",
         "order T bytes 04: ordered",
         "order_bytes T room 10: 04",
+        "chain T place 0 names: figure 4",
+        "chain T place 0 names 256: figure 4",
+        "chain T place 0 names 1 1 1 1 1 1 1 1 1 1 1 1 1 1 1 1 1: figure 4",
+        "chain T place 0 names 255 log 0: figure 4",
+        "figures T place 0 for 1 names 255: wait 0 finish 4",
         "post T place 0 count 18446744073709551616: accepted",
     ] {
         assert!(Row::parse(line).is_err(), "understood: {line}");

@@ -1,6 +1,7 @@
 //! A row: a request by field, a colon and the answer, in the grammar that stands at the top of the file of rows.
 
 use crate::model::{Account, Requestor, State, Table, MAX_PLACES};
+use crate::support::names::NOBODY;
 
 #[derive(Clone, Copy, Debug, PartialEq, Eq)]
 pub enum Call {
@@ -16,6 +17,7 @@ pub enum Call {
     Run,
     Lead,
     Figures,
+    Chain,
     State,
     AllCalls,
     Slots,
@@ -28,7 +30,7 @@ const TABLE: &str = "T D N rate burst need within";
 const STATE: &str = "T D N rate burst need within credit backlog slot";
 
 impl Call {
-    pub const ALL: [Call; 18] = [
+    pub const ALL: [Call; 19] = [
         Call::Admit,
         Call::Start,
         Call::ReadTable,
@@ -41,6 +43,7 @@ impl Call {
         Call::Run,
         Call::Lead,
         Call::Figures,
+        Call::Chain,
         Call::State,
         Call::AllCalls,
         Call::Slots,
@@ -68,6 +71,7 @@ impl Call {
             Call::Run => ("run", STATE, "length"),
             Call::Lead => ("lead", STATE, "place length each log"),
             Call::Figures => ("figures", STATE, "place for"),
+            Call::Chain => ("chain", STATE, "place names length"),
             Call::State => ("state", STATE, ""),
             Call::AllCalls => ("all_calls", STATE, "place count for length"),
             Call::Slots => ("slots", STATE, "place count after length"),
@@ -88,7 +92,7 @@ impl Call {
 }
 
 /// The fields: how many numbers each has, at least and at most, and the largest.
-const FIELDS: [(&str, usize, usize, u64); 20] = [
+const FIELDS: [(&str, usize, usize, u64); 21] = [
     ("T", 0, 0, 0),
     ("D", 1, 1, NARROW),
     ("N", 1, 1, u64::MAX),
@@ -107,6 +111,7 @@ const FIELDS: [(&str, usize, usize, u64); 20] = [
     ("length", 1, 1, u64::MAX),
     ("each", 1, 1, 255),
     ("log", 0, 128, 255),
+    ("names", 1, MAX_PLACES, 255),
     ("bytes", 0, 128, 255),
     ("room", 1, 1, u64::MAX),
 ];
@@ -193,6 +198,15 @@ impl Row {
             Some(each) => vec![each[0] as u8; self.number("length") as usize],
             None => self.bytes("log"),
         }
+    }
+
+    /// The names of a chain call: those that are given, and nobody's behind them, for all places that there is room for or as many as are
+    /// said.
+    pub fn names(&self) -> Vec<u8> {
+        let length = if self.find("length").is_some() { self.number("length") as usize } else { MAX_PLACES };
+        let mut names = self.bytes("names");
+        names.resize(length, NOBODY);
+        names
     }
 
     /// A number for each place: those that are named, or those of T, and 0 behind them.

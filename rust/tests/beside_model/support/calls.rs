@@ -3,6 +3,7 @@
 use justrave::{Arbiter, Cause, Refusal, SlotAnswer, Transfers};
 
 use super::chance::Chance;
+use super::names;
 use super::words::words_of;
 use crate::model::{Fault, State, Table, IDLE, MAX_BACKLOG, MAX_LOG, MAX_PLACES, MAX_SLOT};
 
@@ -13,6 +14,8 @@ pub enum Call {
     /// The log's length.
     Run(usize),
     Figures(usize, u64),
+    /// The place, and which place each place follows.
+    Chain(usize, Vec<Option<usize>>),
     Lead(usize, Vec<u8>),
     /// The buffer's length.
     Write(usize),
@@ -41,6 +44,7 @@ impl Call {
             Call::Slot => "slot",
             Call::Run(..) => "run",
             Call::Figures(..) => "figures",
+            Call::Chain(..) => "chain",
             Call::Lead(..) => "lead",
             Call::Write(..) => "write",
             Call::Account(..) => "account",
@@ -64,6 +68,7 @@ impl Call {
             Call::Figures(place, transfers) => arbiter
                 .figures(*place, Transfers(*transfers))
                 .map(|figures| vec![figures.wait.0 as i64, figures.finish.0 as i64]),
+            Call::Chain(place, follows) => arbiter.chain(*place, &in_room(follows)).map(|figure| vec![figure.0 as i64]),
             Call::Lead(place, log) => arbiter.lead(*place, log).map(|lead| vec![lead]),
             Call::Write(_) => arbiter.write_table(&mut lent).map(|length| vec![length as i64]),
             Call::Account(place) => {
@@ -83,6 +88,7 @@ impl Call {
             Call::Figures(place, transfers) => {
                 state.figures(*place, *transfers).map(|(wait, finish)| vec![wait as i64, finish as i64])
             }
+            Call::Chain(place, follows) => state.chain(*place, &in_room(follows)).map(|figure| vec![figure as i64]),
             Call::Lead(place, log) => state.lead(*place, log).map(|lead| vec![lead]),
             Call::Write(_) => state.write_table(&mut lent).map(|length| vec![length as i64]),
             Call::Account(place) => {
@@ -92,6 +98,11 @@ impl Call {
         };
         Told { answer: answer.map_err(turned_by_model), lent, words: words_of(state) }
     }
+}
+
+/// As many entries as there is room for; the places beyond follow nobody.
+fn in_room<const ROOM: usize>(follows: &[Option<usize>]) -> [Option<usize>; ROOM] {
+    std::array::from_fn(|place| follows.get(place).copied().flatten())
 }
 
 /// Stamp and place, or -1 for idle.
@@ -124,7 +135,7 @@ pub fn turned_by_model(fault: Fault) -> Turned {
 
 /// A call of any kind, with places and counts on both sides of their limits.
 pub fn any<const ROOM: usize>(chance: &mut Chance, state: &State<ROOM>) -> Call {
-    match chance.within(0, 11) {
+    match chance.within(0, 12) {
         0..=2 => Call::Post(place(chance, state), count(chance, state)),
         3..=5 => Call::Slot,
         6 => Call::Run(run_length(chance, state)),
@@ -132,6 +143,7 @@ pub fn any<const ROOM: usize>(chance: &mut Chance, state: &State<ROOM>) -> Call 
         8 => Call::Lead(place(chance, state), log(chance)),
         9 => Call::Account(place(chance, state)),
         10 => Call::Standing,
+        11 => Call::Chain(place(chance, state), follows(chance, state)),
         _ => Call::Write(buffer_length(chance, state)),
     }
 }
@@ -167,6 +179,17 @@ fn run_length<const ROOM: usize>(chance: &mut Chance, state: &State<ROOM>) -> us
 
 fn transfers(chance: &mut Chance) -> u64 {
     chance.pick(&[0, 1, 1, 2, 3, 17, 254, 255, 255, 256, 257, (1 << 32) + 1, u64::MAX])
+}
+
+/// Names of every kind; sometimes a place is followed whose number takes more than a byte, or is the byte for nobody.
+fn follows<const ROOM: usize>(chance: &mut Chance, state: &State<ROOM>) -> Vec<Option<usize>> {
+    let count = state.table.count.clamp(1, ROOM as u64) as usize;
+    let mut follows = names::followed::<ROOM>(&names::any(chance, count, ROOM));
+    if chance.one_in(8) {
+        let inside = chance.index(count);
+        follows[chance.index(ROOM)] = Some(chance.pick(&[255, 256, 256 + inside, inside + (1 << 32), usize::MAX]));
+    }
+    follows.to_vec()
 }
 
 /// Places and idle slots by chance; sometimes as long as a log may be, and longer.

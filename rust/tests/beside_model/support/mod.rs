@@ -1,7 +1,8 @@
-//! What the tests share: chance, generated tables, states and calls, and the model seen as words.
+//! What the tests share: chance, generated tables, states, names and calls, and the model seen as words.
 
 pub mod calls;
 pub mod chance;
+pub mod names;
 pub mod states;
 pub mod tables;
 pub mod tally;

@@ -2,7 +2,7 @@
 
 use super::chance::Chance;
 use super::tables;
-use crate::model::{Account, State, MAX_BACKLOG, MAX_SLOT};
+use crate::model::{Account, State, Table, MAX_BACKLOG, MAX_SLOT};
 
 /// A slot number, often near its limit.
 pub fn first_slot(chance: &mut Chance) -> u64 {
@@ -22,9 +22,8 @@ pub fn any_first(chance: &mut Chance) -> u64 {
     }
 }
 
-/// A sound state that most likely no calls lead to: credits are moved downward in the table, and a need may be out of reach.
-pub fn invented<const ROOM: usize>(chance: &mut Chance) -> State<ROOM> {
-    let table = tables::accepted(chance);
+/// A sound state of this table that most likely no calls lead to: credits are moved downward in the table.
+pub fn invented_on<const ROOM: usize>(chance: &mut Chance, table: Table<ROOM>) -> State<ROOM> {
     let mut state = State { table, slot: first_slot(chance), accounts: [Account::default(); ROOM] };
     let mut room = 0;
     for place in 0..table.count as usize {
@@ -34,6 +33,13 @@ pub fn invented<const ROOM: usize>(chance: &mut Chance) -> State<ROOM> {
         room -= state.accounts[place].credit;
         state.accounts[place].backlog = backlog(chance);
     }
+    state
+}
+
+/// The same with any accepted table, of which a need may be out of reach.
+pub fn invented<const ROOM: usize>(chance: &mut Chance) -> State<ROOM> {
+    let table = tables::accepted(chance);
+    let mut state = invented_on(chance, table);
     if chance.one_in(3) {
         let place = chance.index(table.count as usize);
         state.table.requestors[place].within = chance.within(1, table.requestors[place].within);

@@ -18,6 +18,7 @@ impl Tally {
         self.expect("slot", &[0, 22, 23]);
         self.expect("run", &[0, 13, 22, 23]);
         self.expect("figures", &[0, 5, 11, 23]);
+        self.expect("chain", &[0, 11, 16, 23]);
         self.expect("lead", &[0, 11, 13, 23]);
         self.expect("write", &[0, 7, 14, 23]);
         self.expect("account", &[0, 11, 23]);

@@ -11,7 +11,7 @@ use Rattle.terms.proofs.Checks.{then-open, held-open, held-by}
 use Rattle.terms.proofs.Sound.{place-open}
 use Rattle.layout.specs.Words.{roomOf, stateOf}
 use Rattle.admission.specs.Checked.{tableIn, Checked}
-use Rattle.asking.proofs.Asked.{sound-checked}
+use Rattle.soundness.proofs.Places.{sound-checked}
 use borrow.Author.Needs.{needs}
 use Rattle.asking.proofs.figures.figures_words.Statement.{statement}
 use Rattle.asking.proofs.figures.figures_words.Tie as tie

@@ -3,7 +3,8 @@
 use mathlib.Core.Path.{sym, _∙_}
 use Rattle.terms.specs.Limits.{maxPlaces}
 use Rattle.admission.specs.Checked.{Checked}
-use Rattle.asking.proofs.Asked.{sound-checked, finishes-left}
+use Rattle.soundness.proofs.Places.{sound-checked}
+use Rattle.asking.proofs.Asked.{finishes-left}
 use borrow.Author.Needs.{needs}
 use Rattle.asking.proofs.write.write_state.Statement.{statement}
 use Rattle.asking.proofs.write.write_state.Tie as tie

@@ -1,4 +1,4 @@
--- `arbiter::refusals::input_place` meets its contract. Each arm's place is that of its case. Assumes nothing.
+-- `terms::refusals::input_place` meets its contract. Each arm's place is that of its case. Assumes nothing.
 use mathlib.Core.Path.{ap, sym}
 use borrow.Author.Needs.{needs}
 use Rattle.terms.specs.Refusals.{inputPlace}
@@ -16,6 +16,9 @@ enum-known-i-3 c = search needs
 
 enum-known-i-4 : tie.Need-enum-known-i-4
 enum-known-i-4 c = search needs
+
+enum-known-i-5 : tie.Need-enum-known-i-5
+enum-known-i-5 c = search needs
 
 enum-told : tie.Need-enum-told
 enum-told c = search needs
@@ -63,7 +66,7 @@ returns-4 : tie.Need-returns-4
 returns-4 c = ap inputPlace (sym (c .before .i4 .given .1))
 
 returns-5 : tie.Need-returns-5
-returns-5 c = search needs
+returns-5 c = ap inputPlace (sym (c .before .i5 .given .1))
 
 returns-6 : tie.Need-returns-6
 returns-6 c = search needs
@@ -95,6 +98,9 @@ returns-14 c = search needs
 returns-15 : tie.Need-returns-15
 returns-15 c = search needs
 
+returns-16 : tie.Need-returns-16
+returns-16 c = search needs
+
 pub input-place-spec : {M : Type 1} → statement M
 input-place-spec =
     tie.close
@@ -103,6 +109,7 @@ input-place-spec =
     enum-known-i-2
     enum-known-i-3
     enum-known-i-4
+    enum-known-i-5
     enum-told
     enum-told-2
     enum-told-3
@@ -128,4 +135,5 @@ input-place-spec =
     returns-12
     returns-13
     returns-14
-    returns-15)
+    returns-15
+    returns-16)

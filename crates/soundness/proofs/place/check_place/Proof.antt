@@ -1,4 +1,4 @@
--- `asking::place::check_place` meets its contract. Two gates. Assumes nothing.
+-- `soundness::place::check_place` meets its contract. Two gates. Assumes nothing.
 use mathlib.Core.Path.{_≡_, sym, _∙_}
 use mathlib.Core.Bool.{true}
 use native.Mathlib.Omega.{arith}
@@ -8,9 +8,9 @@ use Rattle.terms.specs.Limits.{maxPlaces}
 use Rattle.terms.specs.State.{sound}
 use Rattle.layout.specs.Words.{roomOf, stateOf}
 use Rattle.admission.proofs.Rows.{count-word, head-there}
-use Rattle.asking.proofs.Asked.{place-unsound, no-such-place, place-passes}
-use Rattle.asking.proofs.place.check_place.Statement.{statement}
-use Rattle.asking.proofs.place.check_place.Tie as tie
+use Rattle.soundness.proofs.Places.{place-unsound, no-such-place, place-passes}
+use Rattle.soundness.proofs.place.check_place.Statement.{statement}
+use Rattle.soundness.proofs.place.check_place.Tie as tie
 
 -- past the first test the words are a sound state's
 passed-23 : (c : tie.Else1) → let w = c .before .before .before .args .words .now in sound (roomOf w) (stateOf w) ≡ true

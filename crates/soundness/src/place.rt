@@ -1,6 +1,6 @@
 // What every question about a place is checked for first.
+use crate::soundness::is_sound;
 use layout::words::count;
-use soundness::soundness::is_sound;
 use terms::refusals::Cause;
 use terms::refusals::InputRefusal;
 use terms::refusals::StateRefusal;
@@ -13,7 +13,7 @@ ghost use Rattle.terms.specs.State.{placeVerdict};
 ghost use Rattle.layout.specs.Words.{roomOf, rightLength, stateOf};
 
 // 23, then 11: N is a number of places only once the words are known to be a state's.
-pub(crate) fn check_place(words: &[u64], place: usize) -> Verdict
+pub fn check_place(words: &[u64], place: usize) -> Verdict
     requires { ⌜ rightLength maxPlaces (now words) ≡ true ⌝ }
     ensures { λ v. ⌜ verdictOf v ≡ placeVerdict (roomOf (now (words .entry))) (stateOf (now (words .entry))) place ⌝ }
 {
