@@ -1,4 +1,4 @@
-// Document 01's cases, in its order, and then the thin form and more of replay.
+// Document 01's cases, in its order; then the thin form, more of replay and of writing, looks into a state, and document 02's requests 2 and 4.
 use crate::answers::admits;
 use crate::answers::chains;
 use crate::answers::figures_of;

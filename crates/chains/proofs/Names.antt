@@ -11,7 +11,8 @@ use lib.Dec.{eqb}
 use lib.ListN.{length, getD}
 use Rattle.lists.specs.Sums.{every}
 use Rattle.terms.specs.declared.place.Requestor.{Requestor}
-use Rattle.terms.specs.Refusals.{faultless, fault, refusal, refusalAt}
+use Rattle.terms.specs.declared.refusals.Refusal.{Refusal}
+use Rattle.terms.specs.Refusals.{Verdict, faultless, fault, refusal, refusalAt, then}
 use Rattle.terms.specs.Chain.{nobody, named, follows, present, chainTo, nameVerdict, circleVerdict}
 use Rattle.terms.proofs.Checks.{gate-passed, gate-failed}
 
@@ -59,3 +60,13 @@ module _ (n : ℕ) (names : List ℕ) (p : ℕ) (r : Requestor) where
   pub circle-fails : every (λ q. not (eqb q p)) (chainTo names n (follows names p)) ≡ false → circleVerdict n names p r ≡ fault (refusalAt 16 p)
   unfolding circleVerdict
   circle-fails e = gate-failed _ _ _ e
+
+-- 11, then 16: the first that finds a fault stops, and one that finds none goes on
+module _ (first rest : Verdict) where
+  pub then-stops : (r : Refusal) → first ≡ fault r → first ≡ then first rest
+  unfolding then
+  then-stops r e = rw e
+
+  pub then-goes-on : first ≡ faultless → rest ≡ then first rest
+  unfolding then
+  then-goes-on e = rw e
