@@ -2,7 +2,7 @@
  * A firmware's main loop over the arbiter: the basin of README.md, whose table and posts stand in basin.hex too.
  *
  * The loop is the one that a unit runs for ever, cut off after 25 slots: hand in what has fallen due, do a slot, and give the line
- * to whoever was granted.
+ * to whoever was granted. Then a unit is updated, and goes on with the words that it kept.
  */
 #include <stdio.h>
 #include <string.h>
@@ -55,6 +55,22 @@ static const struct {
 
 /* The state is the caller's: no heap, and nothing hidden in the library. */
 static uint64_t state[STATE_WORDS];
+
+/* The words that a unit kept over a power cut, with the layout beside them. Before it was updated it had done three slots of this basin. */
+static const uint64_t kept_layout = JUSTRAVE_OLD_LAYOUT;
+static const uint64_t kept[JUSTRAVE_OLD_WORDS(PLACES)] = {
+    20, PLACES, 3,
+    4, 40, 2, 10, 40, 0,
+    2, 20, 1, 15, 20, 0,
+    2, 20, 1, 15, 20, 0,
+    4, 60, 3, 25, 60, 0,
+    8, 160, 8, 50, 124, 11,
+};
+
+/* Since the update there is room for more heads on its line. */
+#define UPDATED_PLACES 40
+#define UPDATED_WORDS JUSTRAVE_STATE_WORDS(UPDATED_PLACES)
+static uint64_t updated[UPDATED_WORDS];
 
 /* Says what a call was refused with, and answers whether it was. */
 static int refused(const char *call, uint64_t outcome)
@@ -163,10 +179,63 @@ static void tell_order(void)
     }
 }
 
-/* What bad input gets: a number. The state stays what it was; only the words of a start that is refused are set to 0. */
+/*
+ * Wakes the updated unit: words of the present layout are used as they are, with zeros behind them where there is more room now, and
+ * those of the old one are carried over. With any others, and with damaged ones, there is nothing to go on with. `line` is where the unit
+ * stands. Answers 1 if the unit goes on, 0 if it has to start anew.
+ */
+static int wake(uint64_t layout, const uint64_t *words, size_t length, uint64_t line[JUSTRAVE_STANDING_ANSWER])
+{
+    memset(updated, 0, sizeof updated);
+    if (layout == JUSTRAVE_LAYOUT && length <= UPDATED_WORDS
+        && justrave_standing(words, length, line, JUSTRAVE_STANDING_ANSWER) == JUSTRAVE_ACCEPTED) {
+        memcpy(updated, words, length * sizeof updated[0]);
+    } else if (layout == JUSTRAVE_OLD_LAYOUT) {
+        justrave_carry(words, length, updated, UPDATED_WORDS);
+    }
+    /* 0 in every word is no state, so that this is refused too where nothing was taken */
+    return justrave_standing(updated, UPDATED_WORDS, line, JUSTRAVE_STANDING_ANSWER) == JUSTRAVE_ACCEPTED;
+}
+
+/* What the updated unit wakes up with, and whose the next slot is. */
+static void tell_woken(const char *how, uint64_t layout, const uint64_t *words, size_t length)
+{
+    uint64_t line[JUSTRAVE_STANDING_ANSWER], account[JUSTRAVE_ACCOUNT_ANSWER], answer[JUSTRAVE_SLOT_ANSWER];
+
+    if (!wake(layout, words, length, line)) {
+        printf("%s: start anew\n", how);
+        return;
+    }
+    if (refused("account", justrave_account(updated, UPDATED_WORDS, SERVICE_LOG, account, JUSTRAVE_ACCOUNT_ANSWER))
+        || refused("slot", justrave_slot(updated, UPDATED_WORDS, answer, JUSTRAVE_SLOT_ANSWER))) {
+        return;
+    }
+    printf("%s: %llu places and room for %d, slot %llu comes next, %llu wait at the service log; it is granted to: %s\n", how,
+           (unsigned long long)line[1], UPDATED_PLACES, (unsigned long long)line[0], (unsigned long long)account[1],
+           JUSTRAVE_IS_GRANTED(answer) ? who[JUSTRAVE_GRANTED(answer)] : "-");
+}
+
+/* An update, and another power cut after it, before which the unit kept its words with the present layout. */
+static void show_update(void)
+{
+    uint64_t again[UPDATED_WORDS];
+
+    tell_woken("carried over", kept_layout, kept, JUSTRAVE_OLD_WORDS(PLACES));
+    memcpy(again, updated, sizeof again);
+    tell_woken("as they are", JUSTRAVE_LAYOUT, again, UPDATED_WORDS);
+    tell_woken("the main loop's, in more room", JUSTRAVE_LAYOUT, state, STATE_WORDS);
+    again[7] = 41; /* the pump cannot have saved more than its burst */
+    tell_woken("damaged words", JUSTRAVE_LAYOUT, again, UPDATED_WORDS);
+    tell_woken("words of any other layout", 1, kept, JUSTRAVE_OLD_WORDS(PLACES));
+}
+
+/*
+ * What bad input gets: a number. The state stays what it was; only the words in which a start, or a carrying over, was to make a state are
+ * set to 0.
+ */
 static void show_refusals(void)
 {
-    uint64_t other[STATE_WORDS];
+    uint64_t other[STATE_WORDS], broken[JUSTRAVE_OLD_WORDS(PLACES)];
     uint32_t hasty[TABLE_NUMBERS];
     uint8_t round[PLACES];
     uint64_t figure[JUSTRAVE_CHAIN_ANSWER];
@@ -179,6 +248,10 @@ static void show_refusals(void)
     memcpy(round, follows, sizeof round);
     round[CHLORINE_PROBE] = SERVICE_LOG; /* probe, log and handset would wait for one another for ever */
     refused("chain", justrave_chain(state, STATE_WORDS, HANDSET, round, PLACES, figure, JUSTRAVE_CHAIN_ANSWER));
+    memcpy(broken, kept, sizeof broken);
+    broken[7] = 41; /* the pump's credit again */
+    refused("carry", justrave_carry(broken, JUSTRAVE_OLD_WORDS(PLACES), other, STATE_WORDS));
+    refused("carry", justrave_carry(kept, JUSTRAVE_OLD_WORDS(PLACES), other, JUSTRAVE_STATE_WORDS(PLACES - 1)));
 }
 
 int main(void)
@@ -197,6 +270,7 @@ int main(void)
     for (uint64_t slot = 0; slot < SLOTS && turn(slot); slot++) {
     }
     tell_standing();
+    show_update();
     show_refusals();
     return 0;
 }

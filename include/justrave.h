@@ -18,7 +18,25 @@
  *
  * The layout. Words are for calls of one layout: a library that keeps them in another way has another number, JUSTRAVE_LAYOUT, which
  * justrave_layout() tells of the one that was linked. Words of different layouts can be as many, so that no length tells them apart:
- * a unit that keeps words keeps the number beside them, and where it has changed the unit starts anew.
+ * a unit that keeps words keeps the number beside them, and looks at it when it has been updated.
+ * - With JUSTRAVE_LAYOUT the words are used as they are, with zeros behind them where there is more room now.
+ * - With JUSTRAVE_OLD_LAYOUT they were written while N was at most JUSTRAVE_OLD_PLACES. justrave_carry makes a state of them that goes on
+ *   where the old one stood. From then on JUSTRAVE_LAYOUT is the number to keep, beside the new words.
+ * - With any other number, with damaged words, or with more than there is room for, the unit starts anew:
+ *
+ *       memset(state, 0, sizeof state);
+ *       if (kept_layout == JUSTRAVE_LAYOUT && kept_length <= STATE_WORDS
+ *           && justrave_standing(kept, kept_length, line, JUSTRAVE_STANDING_ANSWER) == JUSTRAVE_ACCEPTED) {
+ *           memcpy(state, kept, kept_length * sizeof state[0]);
+ *       } else if (kept_layout == JUSTRAVE_OLD_LAYOUT) {
+ *           justrave_carry(kept, kept_length, state, STATE_WORDS);
+ *       }
+ *       if (justrave_standing(state, STATE_WORDS, line, JUSTRAVE_STANDING_ANSWER) != JUSTRAVE_ACCEPTED) {
+ *           justrave_start(table, table_length, 0, state, STATE_WORDS);
+ *       }
+ *
+ *   justrave_standing refuses damaged words, and those that are cut short, before zeros are put behind them. Where nothing was taken the
+ *   state is all 0, which it refuses too.
  *
  * What the caller owes, since C cannot say it in a type:
  * - a pointer is aligned for its type and has as many elements behind it as its length says. With length 0 nothing is read or written
@@ -32,9 +50,9 @@
  * The stack. The library follows the System V calling convention of x86-64. It finds the stack aligned to 16 bytes, as every caller
  * leaves it, and keeps it so; and it uses the red zone, the 128 bytes below the stack pointer. An interrupt handler that runs on the same
  * stack must skip these 128 bytes before it writes, as the handlers of a process's signals do. How many bytes of stack an accepted
- * call takes, its return address and the red zone included, measured with 16 places by tests/stack: an order 1,536, a start from bytes
- * 704, one from numbers 608, a write 472, a chain 144, a run and a lead 128, a slot and figures 112, a post, an account and a
- * standing 96. JUSTRAVE_STACK is more than each.
+ * call takes, its return address and the red zone included, measured with the largest N by tests/stack: an order 4,552, a write 1,288, a
+ * start from bytes 704, one from numbers 608, a carrying over 160, a chain 144, a run and a lead 128, a slot and figures 112, a post, an
+ * account and a standing 96, the layout and the number of a state's words 24. JUSTRAVE_STACK is more than each.
  */
 #ifndef JUSTRAVE_H
 #define JUSTRAVE_H
@@ -51,10 +69,10 @@ extern "C" {
 #endif
 
 /* The layout that this header is for. If justrave_layout() differs, header and library are of different versions. */
-#define JUSTRAVE_LAYOUT 2
+#define JUSTRAVE_LAYOUT 3
 
 /* The largest N: for at most so many places words have room. */
-#define JUSTRAVE_MAX_PLACES 16
+#define JUSTRAVE_MAX_PLACES 64
 
 /*
  * How many words a state has that has room for so many places, 1 to JUSTRAVE_MAX_PLACES; a macro, so that a state can be declared
@@ -63,13 +81,21 @@ extern "C" {
 #define JUSTRAVE_STATE_WORDS(places) (3 + 6 * (places))
 
 /*
+ * The layout that justrave_carry takes, the most places that its words had room for, and how many words had room for so many places. These
+ * three stay what they are, whatever becomes of the present layout.
+ */
+#define JUSTRAVE_OLD_LAYOUT 2
+#define JUSTRAVE_OLD_PLACES 16
+#define JUSTRAVE_OLD_WORDS(places) (3 + 6 * (places))
+
+/*
  * How many numbers a table has that is given as numbers, and that is started in words with room for so many places: D, N and four to each
  * of these places.
  */
 #define JUSTRAVE_TABLE_NUMBERS(places) (2 + 4 * (places))
 
 /* More bytes of stack than any call was measured to take. */
-#define JUSTRAVE_STACK 2560
+#define JUSTRAVE_STACK 6144
 
 /* How many words, or for the lead how many signed numbers, each answer has. */
 #define JUSTRAVE_SLOT_ANSWER 2
@@ -90,8 +116,8 @@ extern "C" {
 /* The longest log, in bytes, and so the most slots of one run. */
 #define JUSTRAVE_MAX_LOG 65536
 
-/* Room for the bytes of any table: at most 5 for each number, D, N and 4 for each of 16 places. */
-#define JUSTRAVE_TABLE_ROOM 330
+/* Room for the bytes of any table: at most 5 for each of its numbers. */
+#define JUSTRAVE_TABLE_ROOM (5 * JUSTRAVE_TABLE_NUMBERS(JUSTRAVE_MAX_PLACES))
 
 /* The highest slot number, two to the power 62: no slot is done at it. */
 #define JUSTRAVE_MAX_SLOT ((uint64_t)1 << 62)
@@ -102,16 +128,16 @@ extern "C" {
  * Refusals 3, 4, 5, 7 and 16 always name a place, so an outcome is never equal to their names: compare JUSTRAVE_NUMBER(outcome) with a
  * name, and the outcome itself with nothing but JUSTRAVE_ACCEPTED.
  *
- * A refused call changes nothing: the state, the log, the buffer and the answer are what they were. Only a start that is refused
- * for its table or its slot number writes: it sets every word of the state to 0, and every call on such words but a start is refused 23.
- * Start into memory of its own where an old state is still wanted.
+ * A refused call changes nothing: the state, the log, the buffer and the answer are what they were. Only a call that makes a state writes
+ * when it is refused, unless for a length (255): it sets every word of the state to 0, and every call on such words but one that makes
+ * a state is refused 23. Make a state in memory of its own where the one that was there is still wanted.
  */
 enum {
     JUSTRAVE_ACCEPTED = 0,
 
     /* caused by the input */
     JUSTRAVE_DENOMINATOR = 1,  /* D is not 1 to 65,535 */
-    JUSTRAVE_PLACES = 2,       /* N is not 1 to 16 or is above the room, or of numbers given past place N-1 one is not 0 */
+    JUSTRAVE_PLACES = 2,       /* N is not 1 to JUSTRAVE_MAX_PLACES or is above the room, or of numbers given past place N-1 one is not 0 */
     JUSTRAVE_RATE = 3,         /* a rate is not 1 to D; names the place */
     JUSTRAVE_BURST = 4,        /* a burst is not D to 16,777,216; names the place */
     JUSTRAVE_NEED = 5,         /* a need's j is not 1 to 255, or its L not 1 to 1,073,741,824; names the place */
@@ -130,10 +156,11 @@ enum {
     /* caused by the state */
     JUSTRAVE_BACKLOG = 21,     /* more than 65,535 transfers would wait at the place */
     JUSTRAVE_SLOT_LIMIT = 22,  /* no slot number is left, or for a run too few */
-    JUSTRAVE_BROKEN_STATE = 23, /* the state breaks a rule: no accepted start and calls lead to it */
+    JUSTRAVE_BROKEN_STATE = 23, /* the state, or the old words, break a rule: no accepted start and calls lead to them */
 
-    /* of these calls themselves, caused by the input and tested before all else: a lent state is not as long as one with room for 1 to 16
-       places, a lent answer does not have its length, or a table given as numbers, or names, not the length for the state's room */
+    /* of these calls themselves, caused by the input and tested before all else: a lent state is not as long as one with room for 1 to
+       JUSTRAVE_MAX_PLACES places; a lent answer does not have its length; names or a table's numbers are not as many as the state's room
+       asks; old words are not JUSTRAVE_OLD_WORDS of 1 to JUSTRAVE_OLD_PLACES places, or the state has less room than they had */
     JUSTRAVE_LENGTH = 255
 };
 
@@ -176,6 +203,18 @@ uint64_t justrave_start(const uint8_t *table, size_t table_length, uint64_t firs
  */
 uint64_t justrave_start_numbers(const uint32_t *numbers, size_t numbers_length, uint64_t first, uint64_t *state,
                                 size_t state_length);
+
+/*
+ * Makes a state of words of the old layout, JUSTRAVE_OLD_WORDS(places) of them for 1 to JUSTRAVE_OLD_PLACES places: with the same table,
+ * slot number, credits and backlogs, and 0 past its last place. Every call on it then answers as it would have answered before; only names
+ * for a chain, and numbers for a start in the same words, are lent for the new room. From then on JUSTRAVE_LAYOUT is kept beside its words.
+ * The words of the state have room for as many places as the old ones, or for more, and may hold anything before. The old words are only
+ * read, and are other memory than the state's: a state is not made over the words that it is made of.
+ *
+ * Refused 255, which changes nothing; and 23 where the old words break a rule, for which N is held to the places that they had room for.
+ * The words of the state are then all 0.
+ */
+uint64_t justrave_carry(const uint64_t *old, size_t old_length, uint64_t *state, size_t state_length);
 
 /*
  * For whoever knows the requestors and not their priorities. The table's bytes list them in any order, up to JUSTRAVE_MAX_PLACES of

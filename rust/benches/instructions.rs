@@ -13,6 +13,10 @@ use measured::Case;
 /// What this program is told to make calls, with the case's number, who makes them and how many.
 const MAKE: &str = "--make";
 
+/// From some length on the C library clears and copies memory by a single instruction, which valgrind counts once for each byte. With so
+/// high a threshold it goes by words, as the code that is measured does.
+const TUNABLES: &str = "glibc.cpu.x86_rep_stosb_threshold=1048576:glibc.cpu.x86_rep_movsb_threshold=1048576";
+
 fn main() -> ExitCode {
     let words: Vec<String> = env::args().skip(1).collect();
     match &words[..] {
@@ -61,6 +65,7 @@ fn report(number: usize, case: &Case) -> io::Result<()> {
 /// All instructions of a process that makes so many calls.
 fn count(case: usize, who: &str, many: usize) -> io::Result<u64> {
     let told = Command::new("valgrind")
+        .env("GLIBC_TUNABLES", TUNABLES)
         .args(["--tool=callgrind", "--callgrind-out-file=/dev/null"])
         .arg(env::current_exe()?)
         .args([MAKE, &case.to_string(), who, &many.to_string()])

@@ -26,9 +26,9 @@ const ABSENT: usize = 254;
 ///
 /// # Room
 ///
-/// An arbiter has room for `ROOM` places, 16 where nothing is said. A line with fewer places can do with less, and pays in memory and
-/// in time for the places that there is room for. A table with more places than that is refused 2; but for this the room changes no
-/// answer. Document 01 knows the largest number of places alone: room is an addition to it.
+/// An arbiter has room for `ROOM` places, [`Table::PLACES`] where nothing is said. A line with fewer places can do with less, and pays in
+/// memory and in time for the places that there is room for. A table with more places than that is refused 2; but for this the room
+/// changes no answer. Document 01 knows the largest number of places alone: room is an addition to it.
 ///
 /// ```
 /// use justrave::{Arbiter, Slots};
@@ -37,17 +37,17 @@ const ABSENT: usize = 254;
 /// let two_places = [4, 2, 1, 8, 1, 4, 1, 4, 1, 7];
 /// assert!(Arbiter::<1>::start_in_room(&one_place, Slots(0)).is_ok());
 /// assert_eq!(Arbiter::<1>::start_in_room(&two_places, Slots(0)).unwrap_err().number, 2);
-/// assert_eq!((size_of::<Arbiter<1>>(), size_of::<Arbiter>()), (72, 792));
+/// assert_eq!((size_of::<Arbiter<1>>(), size_of::<Arbiter>()), (72, 3096));
 /// ```
 ///
-/// There is no arbiter without room for a place, and none with room for more than 16:
+/// There is no arbiter without room for a place, and none with room for more than [`Table::PLACES`]:
 ///
 /// ```compile_fail,E0080
 /// let line = justrave::Arbiter::<0>::start_in_room(&[4, 1, 1, 8, 1, 4], justrave::Slots(0));
 /// ```
 ///
 /// ```compile_fail,E0080
-/// let line = justrave::Arbiter::<17>::start_in_room(&[4, 1, 1, 8, 1, 4], justrave::Slots(0));
+/// let line = justrave::Arbiter::<65>::start_in_room(&[4, 1, 1, 8, 1, 4], justrave::Slots(0));
 /// ```
 #[derive(Clone, PartialEq, Eq)]
 #[repr(C)]
@@ -93,7 +93,7 @@ pub struct Standing {
     pub places: usize,
 }
 
-/// What does not depend on the room, and a start with room for 16 places.
+/// What does not depend on the room, and a start with the largest.
 impl Arbiter {
     /// The longest log, and so the most slots of one [`run`](Arbiter::run).
     pub const MAX_LOG: usize = 65_536;
@@ -101,11 +101,11 @@ impl Arbiter {
     pub const MAX_SLOT: Slots = Slots(1 << 62);
     /// What a log holds for an idle slot.
     pub const LOG_IDLE: u8 = 255;
-    /// Room for the bytes of any table: at most 5 for each number, D, N and 4 for each of 16 places.
+    /// Room for the bytes of any table: at most 5 for each of its numbers.
     pub const TABLE_ROOM: usize = 5 * Table::<MAX_PLACES>::NUMBERS;
 
     /// Reads a table's bytes and stands at slot number `first`: every credit is its burst, and nothing waits. The arbiter has room
-    /// for 16 places; [`start_in_room`](Arbiter::start_in_room) makes one with room for fewer.
+    /// for [`Table::PLACES`]; [`start_in_room`](Arbiter::start_in_room) makes one with room for fewer.
     ///
     /// # Errors
     ///
@@ -125,7 +125,7 @@ impl Arbiter {
 impl<const ROOM: usize> Arbiter<ROOM> {
     /// How many words a state has: 3, and 6 for each place that there is room for.
     pub const STATE_WORDS: usize = {
-        assert!(1 <= ROOM && ROOM <= MAX_PLACES, "an arbiter has room for 1 to 16 places");
+        assert!(1 <= ROOM && ROOM <= MAX_PLACES, "an arbiter has room for 1 to Table::PLACES places");
         size_of::<Self>() / size_of::<u64>()
     };
 
@@ -494,7 +494,7 @@ impl<const ROOM: usize> Arbiter<ROOM> {
     }
 
     /// The words, [`STATE_WORDS`](Arbiter::STATE_WORDS) of them, to be kept somewhere, over a power cut for example. What each means is
-    /// the library's own matter; keep [`layout`](crate::layout)'s number beside them.
+    /// the library's own matter; keep [`layout`](crate::layout)'s number beside them, for the day on which the unit is updated.
     pub fn words(&self) -> &[u64] {
         // SAFETY: a struct of `repr(C)` that holds arrays of u64 and nothing else is as many u64 in a row as its size says. All of it
         // is borrowed for as long as the slice is.
@@ -507,9 +507,11 @@ impl<const ROOM: usize> Arbiter<ROOM> {
         unsafe { slice::from_raw_parts_mut((self as *mut Self).cast(), Self::STATE_WORDS) }
     }
 
-    /// An arbiter from words that were kept; none where they are not as many as an arbiter with this room has. Nothing else is tested
-    /// here: each call tests its state, and one that breaks a rule is refused 23. The words are for the layout in which they were
-    /// written: if [`layout`](crate::layout) is another now, start anew.
+    /// An arbiter from words that were kept; none where they are not as many as an arbiter with this room has. A whole state's words of
+    /// a smaller room become as many by zeros behind them, and answer as they did. Nothing else is tested here: each call tests its state, and one that
+    /// breaks a rule is refused 23; [`standing`](Arbiter::standing) tells that at once. The words are for the layout in which they were
+    /// written: if [`layout`](crate::layout) is another now, they may be ones that [`carry_over`](Arbiter::carry_over) takes, which has an
+    /// example of both, and if not start anew.
     ///
     /// ```
     /// use justrave::{Arbiter, Slots, Transfers};
@@ -522,8 +524,8 @@ impl<const ROOM: usize> Arbiter<ROOM> {
     /// let mut again: Arbiter = Arbiter::from_words(&kept).expect("as many words as there is room for");
     /// assert_eq!(again.slot()?, justrave::SlotAnswer::Idle(Slots(0)));
     ///
-    /// let mut damaged = Arbiter::<1>::from_words(&[u64::MAX; 9]).expect("as many words as there is room for");
-    /// assert_eq!(damaged.slot().unwrap_err().number, 23);
+    /// let damaged = Arbiter::<1>::from_words(&[u64::MAX; 9]).expect("as many words as there is room for");
+    /// assert_eq!(damaged.standing().unwrap_err().number, 23);
     /// assert_eq!(Arbiter::<2>::from_words(&[u64::MAX; 9]), None);
     /// # Ok::<(), justrave::Refusal>(())
     /// ```
@@ -534,6 +536,57 @@ impl<const ROOM: usize> Arbiter<ROOM> {
         let mut made = Self::CLEARED;
         made.words_mut().copy_from_slice(words);
         Some(made)
+    }
+
+    /// An arbiter from words that were kept with the number [`OLD_LAYOUT`](crate::OLD_LAYOUT), by a unit that took at most
+    /// [`OLD_PLACES`](crate::OLD_PLACES): with the same table, slot number, credits and backlogs, and nothing past its last place. Every
+    /// call on it then answers as it would have answered before; only who follows whom, and a table to restart with, are given for this
+    /// room. Keep [`layout`](crate::layout)'s number beside its words from then on.
+    ///
+    /// # Errors
+    ///
+    /// 255 where the words are not [`old_words`](crate::old_words) of a number of places that there was room for, or of more than there
+    /// is room for here. Then 23 where they break a rule; N above the places that they have room for breaks one.
+    ///
+    /// ```
+    /// use justrave::{Arbiter, Refusal, Slots, Standing, Transfers};
+    ///
+    /// /// The line whose words were kept; none where they are of any other layout, damaged, or not for this room.
+    /// fn kept_line(layout: u64, kept: &[u64]) -> Option<Arbiter<40>> {
+    ///     if layout == justrave::OLD_LAYOUT {
+    ///         return Arbiter::carry_over(kept).ok();
+    ///     }
+    ///     Arbiter::from_words(kept).filter(|line| layout == justrave::layout() && line.standing().is_ok())
+    /// }
+    ///
+    /// /// A unit that was updated: it goes on where it stood, or starts anew.
+    /// fn woken(layout: u64, kept: &[u64]) -> Result<Arbiter<40>, Refusal> {
+    ///     kept_line(layout, kept).map_or_else(|| Arbiter::start_in_room(&[4, 1, 1, 8, 1, 4], Slots(0)), Ok)
+    /// }
+    ///
+    /// // D = 4, one place, and slot 70 comes next; rate, burst, need and its slots; credit 5, and two transfers wait
+    /// let old = [4, 1, 70, 1, 8, 1, 4, 5, 2];
+    /// assert_eq!(old.len(), justrave::old_words(1));
+    /// let line = woken(justrave::OLD_LAYOUT, &old)?;
+    /// assert_eq!(line.standing()?, Standing { slot: Slots(70), places: 1 });
+    /// assert_eq!(line.account(0)?.backlog, Transfers(2));
+    /// assert_eq!(woken(justrave::layout(), line.words())?, line);
+    ///
+    /// let anew = |layout, kept: &[u64]| woken(layout, kept).map(|line| line.standing().unwrap().slot) == Ok(Slots(0));
+    /// assert!(anew(justrave::layout(), &[u64::MAX; 9]) && anew(justrave::layout(), &[0; 387]) && anew(1, &old));
+    ///
+    /// let number = |words: &[u64]| Arbiter::<40>::carry_over(words).unwrap_err().number;
+    /// assert_eq!(number(&[4, 1, 70, 1, 8, 1, 4, 9, 2]), 23); // credit above the burst
+    /// assert_eq!(number(&[4, 2, 70, 1, 8, 1, 4, 5, 2]), 23); // N above the room
+    /// assert_eq!(number(&old[..8]), 255);
+    /// # Ok::<(), justrave::Refusal>(())
+    /// ```
+    pub fn carry_over(old: &[u64]) -> Result<Arbiter<ROOM>, Refusal> {
+        let mut made = Self::CLEARED;
+        let words = made.words_mut();
+        // SAFETY: both slices have their lengths behind them; the old words are only read, and the others are a local's.
+        let outcome = unsafe { sys::justrave_carry(old.as_ptr(), old.len(), words.as_mut_ptr(), words.len()) };
+        Refusal::check(outcome).map(|()| made)
     }
 }
 

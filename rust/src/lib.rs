@@ -28,7 +28,9 @@
 //! repository's `target/staticlib`, or in the folder that the environment variable `JUSTRAVE_LIB_DIR` names.
 //!
 //! No heap is used and no standard library: an [`Arbiter`] is [`Arbiter::STATE_WORDS`] words of its owner's memory, which the library
-//! works on in place. How many those are is for the owner to say: an `Arbiter<5>` has room for five places, an `Arbiter` for 16.
+//! works on in place. How many those are is for the owner to say: an `Arbiter<5>` has room for five places, an `Arbiter` for as many as
+//! there may be, [`Table::PLACES`]. Words can be kept over a power cut, and over an update of the unit too: keep [`layout`]'s number with
+//! them.
 
 #![no_std]
 #![warn(missing_docs)]
@@ -37,6 +39,7 @@
 compile_error!("justrave is built for machines whose sizes have 64 bits");
 
 mod arbiter;
+mod kept;
 mod order;
 mod refusal;
 pub mod sys;
@@ -44,18 +47,8 @@ mod table;
 mod units;
 
 pub use arbiter::{Account, Arbiter, Figures, SlotAnswer, Standing};
+pub use kept::{layout, old_words, OLD_LAYOUT, OLD_PLACES};
 pub use order::order;
 pub use refusal::{Cause, Refusal};
 pub use table::{Requestor, Table};
 pub use units::{Slots, Transfers};
-
-/// The number of the layout in which the linked library keeps a state's words. Words that are kept are for the layout in which they
-/// were written, and as many words can be those of another layout: keep this number beside them, and where it has changed start anew.
-///
-/// ```
-/// assert_eq!(justrave::layout(), 2);
-/// ```
-pub fn layout() -> u64 {
-    // SAFETY: the function takes nothing and touches no memory.
-    unsafe { sys::justrave_layout() }
-}

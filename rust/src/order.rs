@@ -2,9 +2,9 @@
 
 use crate::{sys, Refusal};
 
-/// Finds places with which a start takes these requestors. `table` is a table's bytes, and may list up to 16 of them in any order. The
-/// bytes of the table that was found are written to the buffer's start, and the rest of the buffer is left alone. What is told is how
-/// many they are: as many as were read.
+/// Finds places with which a start takes these requestors. `table` is a table's bytes, and may list up to
+/// [`Table::PLACES`](crate::Table::PLACES) of them in any order. The bytes of the table that was found are written to the buffer's start,
+/// and the rest of the buffer is left alone. What is told is how many they are: as many as were read.
 ///
 /// ```
 /// use justrave::{Arbiter, Slots};

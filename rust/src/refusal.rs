@@ -5,9 +5,10 @@ use core::fmt;
 /// What caused a refusal.
 #[derive(Clone, Copy, Debug, PartialEq, Eq, Hash)]
 pub enum Cause {
-    /// What the call was given: a table's bytes or numbers, a slot number, a place, a count, who follows whom, a log or a buffer.
+    /// What the call was given: a table's bytes or numbers, a slot number, a place, a count, who follows whom, a log, a buffer, or too many
+    /// old words or too few.
     Input,
-    /// The state that the call was made on.
+    /// The state that the call was made on, or that was carried over.
     State,
 }
 
@@ -25,8 +26,9 @@ pub enum Cause {
 /// ```
 #[derive(Clone, Copy, Debug, PartialEq, Eq, Hash)]
 pub struct Refusal {
-    /// The number that documents 01 and 02 give it: 1 to 16 or 21 to 23. 255 says that the library that was linked has states or
-    /// tables of another length than this crate was written for.
+    /// The number that documents 01 and 02 give it: 1 to 16 or 21 to 23. 255 comes of old words that do not fit
+    /// ([`carry_over`](crate::Arbiter::carry_over)); from any other call it says that the library that was linked has states or tables of
+    /// another length than this crate was written for.
     pub number: u8,
     /// The place at fault, where the number names one (3, 4, 5, 7, 16).
     pub place: Option<usize>,
@@ -66,6 +68,7 @@ impl Refusal {
             21 => "the backlog would pass its limit",
             22 => "the slot number would pass its limit",
             23 => "the state breaks a rule",
+            255 => "old words of a wrong length or for too many places, or library and wrapper do not fit together",
             _ => "library and wrapper do not fit together",
         }
     }

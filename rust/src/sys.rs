@@ -27,6 +27,8 @@ extern "C" {
         state_length: usize,
     ) -> u64;
 
+    pub fn justrave_carry(old: *const u64, old_length: usize, state: *mut u64, state_length: usize) -> u64;
+
     pub fn justrave_order(
         table: *const u8,
         table_length: usize,

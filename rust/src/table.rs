@@ -5,7 +5,7 @@ use core::slice;
 use crate::{Slots, Transfers};
 
 /// The largest number of places.
-pub(crate) const MAX_PLACES: usize = 16;
+pub(crate) const MAX_PLACES: usize = 64;
 
 /// One requestor's row. A place past the last one has a row that is all 0, which [`Default`] gives.
 #[derive(Clone, Copy, Debug, Default, PartialEq, Eq, Hash)]
@@ -37,8 +37,8 @@ pub struct Requestor {
 /// # Ok::<(), justrave::Refusal>(())
 /// ```
 ///
-/// It has room for `ROOM` places, 16 where nothing is said, and so has an [`Arbiter`](crate::Arbiter) that is started from it. A unit
-/// whose places never change can have exactly as much room as it has places:
+/// It has room for `ROOM` places, [`Table::PLACES`] where nothing is said, and so has an [`Arbiter`](crate::Arbiter) that is started from
+/// it. A unit whose places never change can have exactly as much room as it has places:
 ///
 /// ```
 /// use justrave::{Arbiter, Requestor, Slots, Table, Transfers};
@@ -84,7 +84,7 @@ impl Table {
 impl<const ROOM: usize> Table<ROOM> {
     /// How many numbers the library takes for a table: D, N and four to each place that there is room for.
     pub const NUMBERS: usize = {
-        assert!(1 <= ROOM && ROOM <= MAX_PLACES, "a table has room for 1 to 16 places");
+        assert!(1 <= ROOM && ROOM <= MAX_PLACES, "a table has room for 1 to Table::PLACES places");
         size_of::<Numbers<ROOM>>() / size_of::<u32>()
     };
 

@@ -4,9 +4,15 @@
 use justrave::sys;
 
 /// The most places that a state has room for.
-const MOST: usize = 16;
+const MOST: usize = 64;
+/// The same of the old words that are carried over.
+const OLD_MOST: usize = 16;
 /// How many words a state has that has room for so many places.
 const fn words_for(places: usize) -> usize {
+    3 + 6 * places
+}
+/// The same of old words, which stay as many whatever becomes of a state's.
+const fn old_words_for(places: usize) -> usize {
     3 + 6 * places
 }
 /// How many numbers a table has that has room for so many places.
@@ -22,6 +28,8 @@ const UNTOUCHED: u64 = 0xA5A5_A5A5_A5A5_A5A5;
 const T: [u8; 10] = [4, 2, 1, 8, 1, 4, 1, 4, 1, 7];
 /// T's requestors the other way round: no start takes them so.
 const LISTED: [u8; 10] = [4, 2, 1, 4, 1, 7, 1, 8, 1, 4];
+/// T in old words with room for its two places: slot 70 comes next, the credits are 5 and 6, and three transfers wait at place 0.
+const OLD: [u64; old_words_for(2)] = [4, 2, 70, 1, 8, 1, 4, 5, 3, 1, 4, 1, 7, 6, 0];
 
 // The functions over slices. SAFETY of each: a slice has its length behind it, and exclusive borrows do not overlap.
 
@@ -31,6 +39,10 @@ fn start(table: &[u8], first: u64, state: &mut [u64]) -> u64 {
 
 fn start_numbers(numbers: &[u32], first: u64, state: &mut [u64]) -> u64 {
     unsafe { sys::justrave_start_numbers(numbers.as_ptr(), numbers.len(), first, state.as_mut_ptr(), state.len()) }
+}
+
+fn carry(old: &[u64], state: &mut [u64]) -> u64 {
+    unsafe { sys::justrave_carry(old.as_ptr(), old.len(), state.as_mut_ptr(), state.len()) }
 }
 
 fn post(state: &mut [u64], place: usize, count: u64) -> u64 {
@@ -106,7 +118,7 @@ fn started() -> [u64; WORDS] {
 
 #[test]
 fn the_layout() {
-    assert_eq!(unsafe { sys::justrave_layout() }, 2);
+    assert_eq!(unsafe { sys::justrave_layout() }, 3);
 }
 
 /// 0 for a room that no state has.
@@ -159,7 +171,7 @@ impl Lent {
     }
 }
 
-/// Every length from 0 to one past the words for 17 places. 255 comes exactly where no state has as many words, ahead of 8, 1, 12, 11,
+/// Every length from 0 to one past the words for a place too many. 255 comes exactly where no state has as many words, ahead of 8, 12, 11,
 /// 5 and 13, and changes nothing; any other length is looked at, and these words are no state's.
 #[test]
 fn words_of_every_length() {
@@ -172,15 +184,50 @@ fn words_of_every_length() {
         let started = start(&[], u64::MAX, &mut lent.state);
         assert_eq!(started, if is_right { 8 } else { 255 }, "{length} words");
         assert!(is_right != lent.is_untouched(), "{length} words");
+    }
+}
+
+/// The same of a start from numbers for each number of places: 255 comes ahead of 1 and 12.
+#[test]
+fn words_of_every_length_for_numbers() {
+    for length in 0..=words_for(MOST + 1) + 1 {
         for places in 1..=MOST {
-            let mut lent = Lent::with_words(length);
-            let started = start_numbers(&vec![0; numbers_for(places)], u64::MAX, &mut lent.state);
-            assert_eq!(
-                started,
-                if length == words_for(places) { 1 } else { 255 },
-                "{length} words, numbers for {places}"
-            );
-            assert!((started == 1) != lent.is_untouched());
+            let mut state = vec![UNTOUCHED; length];
+            let started = start_numbers(&vec![0; numbers_for(places)], u64::MAX, &mut state);
+            let (must, left) = if length == words_for(places) { (1, 0) } else { (255, UNTOUCHED) };
+            assert_eq!(started, must, "{length} words, numbers for {places}");
+            assert!(state.iter().all(|&word| word == left), "{length} words, numbers for {places}");
+        }
+    }
+}
+
+/// What comes of old words of a length in words of a length, all of which hold `UNTOUCHED`: that is no state, and 23 where both lengths are
+/// right and the state has the room. Else it is 255, and changes nothing.
+fn check_carried_lengths(old_length: usize, length: usize) {
+    let (old, mut state) = (vec![UNTOUCHED; old_length], vec![UNTOUCHED; length]);
+    let outcome = carry(&old, &mut state);
+    let old_room = (1..=OLD_MOST).find(|&places| old_words_for(places) == old_length);
+    let room = (1..=MOST).find(|&places| words_for(places) == length);
+    let is_right = old_room.zip(room).is_some_and(|(old, room)| old <= room);
+    let (must, left) = if is_right { (23, 0) } else { (255, UNTOUCHED) };
+    assert_eq!(outcome, must, "{old_length} old words into {length}");
+    assert!(state.iter().all(|&word| word == left), "{old_length} old words into {length}");
+    assert!(old.iter().all(|&word| word == UNTOUCHED), "{old_length} old words into {length}");
+}
+
+/// Every pair of lengths up to one past the words for a place too many; and lengths that are right once cut to 8 bits or to 16.
+#[test]
+fn old_words_and_new_of_every_length() {
+    for old_length in 0..=old_words_for(OLD_MOST + 1) + 1 {
+        for length in 0..=words_for(MOST + 1) + 1 {
+            check_carried_lengths(old_length, length);
+        }
+    }
+    for cut in [256, 65_536] {
+        for places in 1..=OLD_MOST {
+            check_carried_lengths(cut + old_words_for(places), words_for(MOST));
+            check_carried_lengths(old_words_for(places), cut + words_for(MOST));
+            check_carried_lengths(cut + old_words_for(places), cut + words_for(places));
         }
     }
 }
@@ -227,7 +274,7 @@ fn an_order_with_an_answer_of_another_length() {
     }
 }
 
-/// Every length from 0 to one past the numbers for 17 places, in every room: 255 comes ahead of 1 and 12, and changes nothing.
+/// Every length from 0 to one past the numbers for a place too many, in every room: 255 comes ahead of 1 and 12, and changes nothing.
 #[test]
 fn numbers_of_every_length() {
     for places in 1..=MOST {
@@ -270,11 +317,15 @@ fn names_of_every_length() {
     }
 }
 
-/// A table of so many places, as bytes and as numbers for a room. N stands in the numbers even where it is above the room.
+/// A table of so many places, as bytes and as numbers for a room. N stands in the numbers even where it is above the room. The lowest of 64
+/// places has a finish figure of 64 x 64 slots.
 fn table_of(places: usize, room: usize) -> (Vec<u8>, Vec<u32>) {
-    let row = [1, 64, 1, 127];
-    let bytes = [64, places as u8].into_iter().chain((0..places).flat_map(|_| row)).collect::<Vec<u8>>();
-    let mut numbers: Vec<u32> = bytes.iter().map(|&byte| byte.into()).collect();
+    let mut bytes = vec![64, places as u8];
+    let mut numbers = vec![64, places as u32];
+    for _ in 0..places {
+        bytes.extend([1, 64, 1, 0x80, 0x20]);
+        numbers.extend([1, 64, 1, 4_096]);
+    }
     numbers.resize(numbers_for(room), 0);
     (bytes, numbers)
 }
@@ -319,6 +370,53 @@ fn a_refused_start_clears_the_words() {
     }
 }
 
+/// The words may hold anything before, and those behind the old state's are 0.
+#[test]
+fn old_words_are_carried_over() {
+    for room in 2..=MOST {
+        let (old, mut state) = (OLD, vec![UNTOUCHED; words_for(room)]);
+        assert_eq!(carry(&old, &mut state), 0, "room for {room}");
+        let (mut started, mut answer) = (vec![UNTOUCHED; words_for(room)], [UNTOUCHED; 2]);
+        assert_eq!(start(&T, 70, &mut started), 0);
+        assert_eq!((old, &state[words_for(2)..]), (OLD, &started[words_for(2)..]), "room for {room}");
+        assert_eq!((standing(&state, &mut answer), answer), (0, [70, 2]));
+        assert_eq!((account(&state, 0, &mut answer), answer), (0, [5, 3]));
+        assert_eq!((account(&state, 1, &mut answer), answer), (0, [6, 0]));
+        assert_eq!((slot(&mut state, &mut answer), answer), (0, [70, 1]));
+        let mut bytes = [0xA5; T.len()];
+        assert_eq!((write(&state, &mut bytes, &mut answer[..1]), bytes), (0, T));
+    }
+}
+
+/// Each number of places that there was room for, in each room: N may be the room, and one more is 23.
+#[test]
+fn old_words_of_every_number_of_places() {
+    for places in 1..=OLD_MOST {
+        let mut old = vec![64, places as u64, 70];
+        old.extend([1, 64, 1, 4_096, 64, 0].repeat(places));
+        for room in places..=MOST {
+            let (mut state, mut started) = (vec![UNTOUCHED; words_for(room)], vec![UNTOUCHED; words_for(room)]);
+            assert_eq!(start(&table_of(places, room).0, 70, &mut started), 0);
+            assert_eq!((carry(&old, &mut state), &state), (0, &started), "{places} places, room for {room}");
+            old[1] += 1;
+            assert_eq!(carry(&old, &mut state), 23, "{places} places, room for {room}");
+            assert!(state.iter().all(|&word| word == 0), "{places} places, room for {room}");
+            old[1] -= 1;
+        }
+    }
+}
+
+/// 23 clears the words, and leaves the old ones.
+#[test]
+fn refused_old_words_clear_the_words() {
+    for (at, word) in [(0, 0), (1, 3), (2, (1 << 62) + 1), (3, 4), (7, 9), (8, 65_536), (13, 8), (14, u64::MAX)] {
+        let mut old = OLD;
+        old[at] = word;
+        let (kept, mut state) = (old, [UNTOUCHED; WORDS]);
+        assert_eq!((carry(&old, &mut state), state, old), (23, [0; WORDS], kept), "word {at} is {word}");
+    }
+}
+
 #[test]
 fn a_start_from_numbers_is_the_start_from_bytes() {
     let (mut from_numbers, mut from_bytes) = ([UNTOUCHED; WORDS], [UNTOUCHED; WORDS]);
@@ -332,7 +430,7 @@ fn a_refused_start_from_numbers_clears_the_words() {
     for (at, number, first, outcome) in [
         (0, 0, 0, 1),
         (1, 4, 0, 2),
-        (1, 17, 0, 2),
+        (1, MOST as u32 + 1, 0, 2),
         (NUMBERS - 1, 1, 0, 2),
         (2, 5, 0, 3 + 256),
         (7, 3, 0, 4 + 256 * 2),
@@ -352,8 +450,9 @@ fn a_refused_start_from_numbers_clears_the_words() {
 /// Cleared words, as a refused start leaves them, are no state: every call is refused 23 and writes nothing.
 #[test]
 fn cleared_words_are_no_state() {
-    let mut state = [0; WORDS];
+    let (mut state, mut other) = ([0; WORDS], [UNTOUCHED; WORDS]);
     let (mut answer, mut lead_answer, mut log) = ([UNTOUCHED; 2], [-7], [0xA5; 20]);
+    assert_eq!((carry(&[0; old_words_for(ROOM)], &mut other), other), (23, [0; WORDS]));
     assert_eq!(post(&mut state, 99, 1), 23);
     assert_eq!(slot(&mut state, &mut answer), 23);
     assert_eq!(run(&mut state, &mut log), 23);
@@ -470,7 +569,7 @@ fn refused_orders_write_nothing() {
         (&LISTED[..9], 20, 8),
         (&[0x84, 0], 20, 9),
         (&[0], 20, 1),
-        (&[4, 17], 20, 2),
+        (&[4, MOST as u8 + 1], 20, 2),
         (&[4, 2, 1, 4, 1, 7, 5], 20, 3 + 256 * 2),
         (&[4, 2, 1, 3], 20, 4 + 256),
         (&[4, 2, 1, 4, 1, 7, 1, 8, 1, 0], 20, 5 + 256 * 2),
@@ -530,6 +629,18 @@ fn nothing_is_written_beside_lent_memory() {
 }
 
 #[test]
+fn carrying_over_writes_nothing_beside_lent_memory() {
+    let (mut memory, mut old) = ([UNTOUCHED; WORDS + 2], [UNTOUCHED; OLD.len() + 2]);
+    old[1..=OLD.len()].copy_from_slice(&OLD);
+    let kept = old;
+    assert_eq!(carry(&old[1..=OLD.len()], &mut memory[1..=WORDS]), 0);
+    assert_eq!((memory[0], memory[WORDS + 1], old), (UNTOUCHED, UNTOUCHED, kept));
+    old[1] = 0;
+    assert_eq!(carry(&old[1..=OLD.len()], &mut memory[1..=WORDS]), 23);
+    assert_eq!((memory[0], &memory[1..=WORDS], memory[WORDS + 1]), (UNTOUCHED, &[0; WORDS][..], UNTOUCHED));
+}
+
+#[test]
 fn an_order_writes_nothing_beside_lent_memory() {
     let (mut buffer, mut answer) = ([0xA5; 22], [UNTOUCHED; 3]);
     assert_eq!(order(&LISTED, &mut buffer[1..21], &mut answer[1..2]), 0);
@@ -557,6 +668,9 @@ fn null_of_length_0_may_be_lent() {
         assert_eq!(sys::justrave_standing(null(), 0, null_mut(), 0), 255);
         assert_eq!(sys::justrave_post(null_mut(), 0, 1, 1), 255);
         assert_eq!(sys::justrave_start_numbers(null(), 0, 0, words, WORDS), 255);
+        assert_eq!(sys::justrave_carry(null(), 0, words, WORDS), 255);
+        assert_eq!(sys::justrave_carry(OLD.as_ptr(), OLD.len(), null_mut(), 0), 255);
+        assert_eq!(sys::justrave_carry(null(), 0, null_mut(), 0), 255);
         assert_eq!((state, lead_answer, length), (kept, [0], [UNTOUCHED]));
         assert_eq!(sys::justrave_start(null(), 0, 0, state.as_mut_ptr(), WORDS), 8);
     }
@@ -588,6 +702,8 @@ fn empty_memory_may_be_lent() {
     assert_eq!(run(&mut state, &mut []), 0);
     assert_eq!(lead(&state, 1, &[], &mut lead_answer), 0);
     assert_eq!((state, lead_answer), (kept, [0]));
+    assert_eq!((carry(&[], &mut state), carry(&OLD, &mut [])), (255, 255));
+    assert_eq!(state, kept);
     let mut answer = [UNTOUCHED];
     assert_eq!(order(&[], &mut [], &mut answer), 8);
     assert_eq!(order(&LISTED, &mut [], &mut answer), 14);

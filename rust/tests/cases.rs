@@ -1,6 +1,6 @@
 //! Document 01's bench examples through the wrapper, by their numbers. Nothing here knows the model.
 
-use justrave::{Arbiter, Cause, Figures, Refusal, SlotAnswer, Slots, Standing, Transfers};
+use justrave::{Account, Arbiter, Cause, Figures, Refusal, Requestor, SlotAnswer, Slots, Standing, Table, Transfers};
 
 /// Table T.
 const T: [u8; 10] = [0x04, 0x02, 0x01, 0x08, 0x01, 0x04, 0x01, 0x04, 0x01, 0x07];
@@ -142,7 +142,7 @@ fn request_2_a_fitter_who_guessed_the_priorities() {
 #[test]
 fn request_4_a_handset_behind_a_display_behind_a_probe() {
     let mut line = started(&[10, 4, 1, 10, 1, 10, 2, 20, 1, 7, 3, 30, 1, 8, 4, 40, 1, 18]);
-    let mut follows = [None; 16];
+    let mut follows = [None; Table::PLACES];
     (follows[2], follows[3]) = (Some(1), Some(2));
     let figures = [0, 1, 2, 3].map(|place| line.chain(place, &follows));
     assert_eq!(figures, [10, 7, 15, 33].map(|slots| Ok(Slots(slots))));
@@ -162,6 +162,110 @@ fn request_4_a_handset_behind_a_display_behind_a_probe() {
     assert_eq!(line.chain(0, &follows), Err(Refusal { number: 16, place: Some(1), cause: Cause::Input }));
     follows[1] = Some(4);
     assert_eq!(line.chain(0, &follows), Err(Refusal { number: 11, place: None, cause: Cause::Input }));
+}
+
+/// So many heads, each with an equal share of 64 and a burst of one transfer.
+fn heads(count: usize) -> Table {
+    let head = Requestor { rate: 1, burst: 64, need: Transfers(1), within: Slots(4_096) };
+    Table::of(64, &vec![head; count])
+}
+
+/// The same as bytes; 4,096 takes two.
+fn bytes_of_heads(count: usize) -> Vec<u8> {
+    [64, count as u8].into_iter().chain([1, 64, 1, 0x80, 0x20].repeat(count)).collect()
+}
+
+/// More heads than the old limit of 16 allowed, up to 64 of them, from numbers and from bytes; 65 are refused 2.
+#[test]
+fn request_5_up_to_sixty_four_heads() {
+    for count in 1..=64 {
+        let line = Arbiter::start_table(&heads(count), Slots(0)).expect("so many are accepted");
+        assert_eq!(line, started(&bytes_of_heads(count)));
+        assert_eq!(line.standing(), Ok(Standing { slot: Slots(0), places: count }));
+    }
+    assert_eq!(Arbiter::start_table(&heads(65), Slots(0)).unwrap_err().number, 2);
+    assert_eq!(refused(&bytes_of_heads(65)), (2, None));
+    assert_eq!(refused(&[64, 65]), (2, None));
+    assert_eq!(refused(&[64, 64]), (8, None));
+}
+
+/// A field at the last place of a table that has fewer is 2, and in a state 23.
+#[test]
+fn request_5_the_last_place_is_looked_at() {
+    let fields: [fn(&mut Requestor); 4] =
+        [|row| row.rate = 1, |row| row.burst = 1, |row| row.need = Transfers(1), |row| row.within = Slots(1)];
+    for set in fields {
+        let mut table = heads(63);
+        set(&mut table.requestors[63]);
+        assert_eq!(Arbiter::start_table(&table, Slots(0)).unwrap_err().number, 2);
+    }
+    let sound = Arbiter::start_table(&heads(63), Slots(0)).expect("so many are accepted");
+    for at in 1..=6 {
+        let mut words = sound.words().to_vec();
+        let end = words.len();
+        words[end - at] = 1;
+        let mut broken: Arbiter = Arbiter::from_words(&words).expect("as many words");
+        assert_eq!(broken.slot().unwrap_err().number, 23);
+    }
+}
+
+/// The lowest of 64 is granted where nobody above it waits, in a single slot and in a run's log.
+#[test]
+fn request_5_a_grant_of_the_last_place() {
+    let mut line = Arbiter::start_table(&heads(64), Slots(0)).expect("so many are accepted");
+    line.post(63, Transfers(1)).unwrap();
+    let mut by_slot = line.clone();
+    assert_eq!(by_slot.slot(), Ok(SlotAnswer::Granted(Slots(0), 63)));
+    let mut log = [0xA5; 3];
+    line.run(&mut log).unwrap();
+    assert_eq!(log, [63, 255, 255]);
+    assert_eq!(line.account(63), Ok(Account { credit: 3, backlog: Transfers(0) }));
+    assert_eq!((line.lead(63, &log), line.lead(62, &log)), (Ok(64 - 3), Ok(-3)));
+    assert_eq!(line.post(64, Transfers(1)).unwrap_err().number, 11);
+}
+
+/// The largest bursts, and rates that sum to D: 65,472 and 63 times 1. The last place's wait is 63 bursts, and 255 transfers at rate 1 take
+/// 255 x 65,535 slots; that is just below the largest L. One slot less is 7, and one more of a rate 6.
+#[test]
+fn request_5_the_largest_line() {
+    let row = Requestor { rate: 1, burst: 16_777_216, need: Transfers(1), within: Slots(1 << 30) };
+    let mut table = Table { denominator: 65_535, count: 64, requestors: [row; 64] };
+    table.requestors[0].rate = 65_472;
+    table.requestors[63].need = Transfers(255);
+    let (wait, finish) = (Slots(63 * 16_777_216), Slots(63 * 16_777_216 + 255 * 65_535));
+    table.requestors[63].within = finish;
+    let mut line = Arbiter::start_table(&table, Slots(0)).expect("the figure is within the need");
+    assert_eq!(line.figures(63, Transfers(255)), Ok(Figures { wait, finish }));
+    for place in 0..64 {
+        line.post(place, Transfers(65_535)).unwrap();
+    }
+    // a grant costs place 0 no more than 63 of its credit: it keeps the line
+    let mut log = [0xA5; 300];
+    line.run(&mut log).unwrap();
+    assert_eq!(log, [0; 300]);
+    assert_eq!(line.account(63), Ok(Account { credit: 16_777_216 + 300, backlog: Transfers(65_535) }));
+
+    table.requestors[63].within.0 -= 1;
+    let refusal = Arbiter::start_table(&table, Slots(0)).unwrap_err();
+    assert_eq!((refusal.number, refusal.place), (7, Some(63)));
+    table.requestors[1].rate = 2;
+    assert_eq!(Arbiter::start_table(&table, Slots(0)).unwrap_err().number, 6);
+}
+
+/// A line of the old limit's 16 places, as its unit kept it, with place 15 waiting: in the new room it goes on, and its table can grow.
+#[test]
+fn request_5_a_unit_that_is_updated() {
+    let mut old = vec![64, 16, 1_000];
+    old.extend([1, 64, 1, 4_096, 64, 0].repeat(16));
+    *old.last_mut().unwrap() = 2;
+    let mut line: Arbiter = Arbiter::carry_over(&old).expect("the state is sound");
+    assert_eq!(line.slot(), Ok(SlotAnswer::Granted(Slots(1_000), 15)));
+    assert_eq!(line.slot(), Ok(SlotAnswer::Idle(Slots(1_001))));
+    assert_eq!(line.account(15), Ok(Account { credit: 2, backlog: Transfers(1) }));
+    assert_eq!(line.post(16, Transfers(1)).unwrap_err().number, 11);
+    old[1] = 17;
+    assert_eq!(Arbiter::<64>::carry_over(&old), Err(Refusal { number: 23, place: None, cause: Cause::State }));
+    line.restart_table(&heads(40), Slots(1_002)).expect("forty heads are accepted");
 }
 
 #[test]

@@ -1,7 +1,8 @@
-//! What the wrapper adds of its own: the sizes of its types in each room, words that are kept and given back, and what an order and a chain
-//! tell.
+//! What the wrapper adds of its own: the sizes of its types in each room, words that are kept and given back or carried over, and what an
+//! order and a chain tell.
 
-use justrave::{sys, Arbiter, Cause, Refusal, Requestor, Slots, Standing, Table, Transfers};
+use justrave::{old_words, sys, OLD_LAYOUT, OLD_PLACES};
+use justrave::{Arbiter, Cause, Refusal, Requestor, SlotAnswer, Slots, Standing, Table, Transfers};
 
 fn sizes<const ROOM: usize>() {
     // SAFETY: the function touches no memory.
@@ -11,34 +12,31 @@ fn sizes<const ROOM: usize>() {
 }
 
 #[test]
-fn sizes_in_every_room() {
+fn sizes_in_small_rooms_and_large() {
     sizes::<1>();
     sizes::<2>();
     sizes::<3>();
     sizes::<4>();
     sizes::<5>();
-    sizes::<6>();
-    sizes::<7>();
     sizes::<8>();
-    sizes::<9>();
-    sizes::<10>();
-    sizes::<11>();
-    sizes::<12>();
-    sizes::<13>();
-    sizes::<14>();
     sizes::<15>();
     sizes::<16>();
-    assert_eq!(Table::PLACES, 16);
-    assert_eq!(Arbiter::TABLE_ROOM, 330);
+    sizes::<17>();
+    sizes::<32>();
+    sizes::<33>();
+    sizes::<63>();
+    sizes::<64>();
+    assert_eq!(Table::PLACES, 64);
+    assert_eq!(Arbiter::TABLE_ROOM, 1_290);
 }
 
 #[test]
 fn words_of_another_length_are_no_arbiter() {
-    for length in 0..=106 {
+    for length in 0..=394 {
         let words = vec![7; length];
         assert_eq!(Arbiter::<1>::from_words(&words).is_some(), length == 9);
         assert_eq!(Arbiter::<5>::from_words(&words).is_some(), length == 33);
-        assert_eq!(<Arbiter>::from_words(&words).is_some(), length == 99);
+        assert_eq!(<Arbiter>::from_words(&words).is_some(), length == 387);
     }
 }
 
@@ -59,14 +57,47 @@ fn words_are_given_back() {
     assert_eq!((again.slot(), again), (line.slot(), line));
 }
 
-/// What the room is left out of: code that was written for 16 places names none.
+/// What the old layout was stays what it was, and the library says the same of it.
 #[test]
-fn where_nothing_is_said_there_is_room_for_16() {
+fn what_is_said_of_old_words() {
+    assert_eq!((OLD_LAYOUT, OLD_PLACES), (2, 16));
+    assert_eq!((old_words(1), old_words(5), old_words(OLD_PLACES)), (9, 33, 99));
+    for places in 0..=OLD_PLACES + 1 {
+        // cleared words are no state, and the length is looked at ahead of that
+        let refusal = Arbiter::<64>::carry_over(&vec![0; old_words(places)]).unwrap_err();
+        assert_eq!(refusal.number, if (1..=OLD_PLACES).contains(&places) { 23 } else { 255 }, "{places} places");
+    }
+}
+
+/// An arbiter that goes on, or a refusal with its cause; what is refused makes no arbiter.
+#[test]
+fn carrying_over_tells_an_arbiter_or_a_refusal() {
+    let old = [4, 2, 70, 1, 8, 1, 4, 5, 3, 1, 4, 1, 7, 6, 0];
+    let mut line = Arbiter::<3>::carry_over(&old).expect("room for two places, and for one more");
+    assert_eq!(line.standing(), Ok(Standing { slot: Slots(70), places: 2 }));
+    let accounts = [0, 1].map(|place| line.account(place).map(|account| (account.credit, account.backlog)));
+    assert_eq!(accounts, [Ok((5, Transfers(3))), Ok((6, Transfers(0)))]);
+    assert_eq!(line.slot(), Ok(SlotAnswer::Granted(Slots(70), 0)));
+    assert_eq!(Arbiter::<2>::carry_over(&old).map(|line| line.words().len()), Ok(15));
+
+    let crowded = Refusal { number: 255, place: None, cause: Cause::Input };
+    assert_eq!(Arbiter::<1>::carry_over(&old), Err(crowded));
+    assert_eq!((Arbiter::<3>::carry_over(&old[..14]), Arbiter::<3>::carry_over(&[])), (Err(crowded), Err(crowded)));
+    let meaning = "old words of a wrong length or for too many places, or library and wrapper do not fit together";
+    assert_eq!(crowded.to_string(), format!("refused 255, by the input: {meaning}"));
+    let mut broken = old;
+    broken[13] = 8;
+    assert_eq!(Arbiter::<3>::carry_over(&broken), Err(Refusal { number: 23, place: None, cause: Cause::State }));
+}
+
+/// What the room is left out of: code that names none has the largest.
+#[test]
+fn where_nothing_is_said_there_is_room_for_all() {
     let table = Table::of(4, &[Requestor { rate: 1, burst: 8, need: Transfers(1), within: Slots(4) }]);
     let from_numbers = Arbiter::start_table(&table, Slots(0)).expect("it is accepted");
     let from_bytes = Arbiter::start(&[4, 1, 1, 8, 1, 4], Slots(0)).expect("it is accepted");
     assert_eq!(from_numbers, from_bytes);
-    assert_eq!(from_bytes.words().len(), 99);
+    assert_eq!(from_bytes.words().len(), 387);
 }
 
 /// A length where an order is found, with the rest of the buffer as it was; a refusal with its place and its cause where none is.
@@ -122,7 +153,7 @@ fn a_chain_tells_slots_or_a_refusal() {
 fn a_followed_place_without_a_byte_is_absent() {
     let line = line_of_two();
     let absent = Refusal { number: 11, place: None, cause: Cause::Input };
-    for place in [2, 16, 253, 254, 255, 256, 257, 511, 1 << 32, (1 << 32) + 1, usize::MAX - 1, usize::MAX] {
+    for place in [2, 64, 253, 254, 255, 256, 257, 511, 1 << 32, (1 << 32) + 1, usize::MAX - 1, usize::MAX] {
         assert_eq!(line.chain(1, &[None, Some(place), None]), Err(absent), "{place} is followed");
         assert_eq!(line.chain(1, &[Some(place), None, None]), Err(absent), "{place} is followed");
         assert_eq!(line.chain(1, &[None, Some(0), Some(place)]), Ok(Slots(11)), "{place} is followed");

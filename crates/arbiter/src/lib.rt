@@ -5,6 +5,7 @@ pub mod admit;
 pub mod bounds;
 mod checks;
 pub mod input;
+pub mod old;
 pub mod rows;
 pub mod start;
 pub mod state;

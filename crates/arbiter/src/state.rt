@@ -7,7 +7,7 @@ use layout::words::HEAD;
 use layout::words::PLACE;
 use terms::units::Slots;
 ghost use mathlib.Core.Path.{_≡_};
-ghost use Rattle.terms.specs.Limits.{maxDenominator, maxPlaces, maxBurst, maxNeed, maxWithin, maxBacklog, maxSlot, maxInput};
+ghost use Rattle.terms.specs.Limits.{maxDenominator, maxPlaces, oldPlaces, maxBurst, maxNeed, maxWithin, maxBacklog, maxSlot, maxInput};
 ghost use Rattle.terms.specs.Start.{noState, start};
 ghost use Rattle.layout.specs.Words.{wordCount};
 ghost use Rattle.arbiter.specs.ByValue.{held, given, startResultOf};
@@ -20,7 +20,9 @@ pub struct Arbiter {
 impl Arbiter {
     pub const MAX_DENOMINATOR: u64 = 65535;
 
-    pub const MAX_PLACES: usize = 16;
+    pub const MAX_PLACES: usize = 64;
+    // The largest N before request 5. States that were made under it are carried over.
+    pub const OLD_PLACES: usize = 16;
 
     pub const MAX_BURST: u64 = 16777216;
 
@@ -40,6 +42,7 @@ impl Arbiter {
     pub fn limits()
         ensures { λ _. do ⌜ (← ⟦Arbiter::MAX_DENOMINATOR⟧ .entry) ≡ maxDenominator ⌝ }
         ensures { λ _. do ⌜ (← ⟦Arbiter::MAX_PLACES⟧ .entry) ≡ maxPlaces ⌝ }
+        ensures { λ _. do ⌜ (← ⟦Arbiter::OLD_PLACES⟧ .entry) ≡ oldPlaces ⌝ }
         ensures { λ _. do ⌜ (← ⟦Arbiter::MAX_BURST⟧ .entry) ≡ maxBurst ⌝ }
         ensures { λ _. do ⌜ (← ⟦Arbiter::MAX_NEED⟧ .entry) ≡ maxNeed ⌝ }
         ensures { λ _. do ⌜ (← ⟦Arbiter::MAX_WITHIN⟧ .entry) ≡ maxWithin ⌝ }

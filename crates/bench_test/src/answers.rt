@@ -1,4 +1,5 @@
 // The calls by value. Of each the line tells first what it handed back, and then its answer.
+use arbiter::old::OldArbiter;
 use arbiter::state::Arbiter;
 use arbiter::table::Table;
 use bench_parts::printing;
@@ -12,6 +13,7 @@ use bench_parts::printing::state;
 use bench_parts::printing::table;
 use bench_parts::printing::told;
 use calls::admit::admit_table;
+use calls::carry::carry;
 use calls::chain::chain;
 use calls::figures::figures;
 use calls::lead::lead;
@@ -184,6 +186,18 @@ pub fn chains(s: Arbiter, place: usize, names: &[u8]) {
     match chain(s, place, names) {
         ChainAnswer::Figure(f) => number(f.0),
         ChainAnswer::Refused(c) => refused(c),
+    }
+}
+
+// What an old state is carried over to; a refused one is all 0.
+pub fn carries(old: OldArbiter) {
+    let done = carry(old);
+    let after = done.state;
+    let a = done.answer;
+    state(after);
+    match a {
+        StartAnswer::Started => say(printing::ACCEPTED),
+        StartAnswer::Refused(c) => refused(c),
     }
 }
 

@@ -1,5 +1,6 @@
-// Document 01's cases, in its order; then the thin form, more of replay and of writing, looks into a state, and document 02's requests 2 and 4.
+// Document 01's cases, in its order; then the thin form, more of replay and of writing, looks into a state, and document 02's requests 2, 4 and 5.
 use crate::answers::admits;
+use crate::answers::carries;
 use crate::answers::chains;
 use crate::answers::figures_of;
 use crate::answers::leads;
@@ -12,6 +13,7 @@ use crate::answers::replays;
 use crate::answers::runs;
 use crate::answers::writes_number;
 use crate::answers::writes_table;
+use arbiter::old::OldArbiter;
 use arbiter::state::Arbiter;
 use bench_parts::printing::case;
 use bench_parts::printing::decimals;
@@ -179,6 +181,37 @@ fn one_behind_the_other() {
     chains(s, 0, b"\xff\x02");
 }
 
+// T after the first two slots of case 3 as an old unit kept it, with this N.
+fn old_t(n: u64) -> OldArbiter {
+    let mut words = [0u64; OldArbiter::WORDS];
+    words[0] = 4;
+    words[1] = n;
+    words[2] = 2;
+    words[3] = 1;
+    words[4] = 8;
+    words[5] = 1;
+    words[6] = 4;
+    words[7] = 2;
+    words[8] = 1;
+    words[9] = 1;
+    words[10] = 4;
+    words[11] = 1;
+    words[12] = 7;
+    words[13] = 6;
+    words[14] = 3;
+    OldArbiter { words: words }
+}
+
+// Document 02, request 5: an old state in the middle of its run, one whose N counts a place of zeros in, and one with N above the old limit.
+fn carried_over() {
+    case(0);
+    carries(old_t(2));
+    case(0);
+    carries(old_t(3));
+    case(0);
+    carries(old_t(17));
+}
+
 // A place, one that is not there, and a state with a credit above its burst.
 fn looks_into_a_state() {
     let s = t_with(account(5, 3), account(2, 1), 7);
@@ -206,4 +239,5 @@ pub fn all() {
     looks_into_a_state();
     put_in_order();
     one_behind_the_other();
+    carried_over();
 }

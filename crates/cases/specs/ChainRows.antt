@@ -2,8 +2,9 @@
 -- finish figures for one transfer are 5, 13, 15, 12 and 20. And a run of calls in which the links of a chain are posted in turn.
 use mathlib.Core.Path.{_≡_}
 use mathlib.Core.List.{List, [], _∷_, _++_}
-use Prim.Native.Nat.{ℕ}
+use Prim.Native.Nat.{ℕ, _-_}
 use lib.ListN.{replicate}
+use Rattle.lists.specs.Places.{placesFrom}
 use Rattle.terms.specs.Table.{Table}
 use Rattle.terms.specs.State.{State}
 use Rattle.terms.specs.Limits.{maxPlaces}
@@ -29,7 +30,7 @@ basinUnsound = stateOf tableBasin 0 (account 41 0 ∷ account 20 0 ∷ account 2
 
 -- each place follows the one above it
 unfoldable pub allInOne : List ℕ
-allInOne = nobody ∷ 0 ∷ 1 ∷ 2 ∷ 3 ∷ 4 ∷ 5 ∷ 6 ∷ 7 ∷ 8 ∷ 9 ∷ 10 ∷ 11 ∷ 12 ∷ 13 ∷ 14 ∷ []
+allInOne = nobody ∷ placesFrom (λ p. p) 0 (maxPlaces - 1)
 
 unfoldable pub chainRows : List Row
 chainRows =
@@ -51,7 +52,7 @@ chainRows =
     -- all five: 5 + 13 + 15 + 12 + 20
     ∷ record { asked = chaining basin 4 allInOne; written = told-chain (chains.figured 65) }
     -- as many places as there can be, with the largest bursts
-    ∷ record { asked = chaining (after tableLargest 0 []) 15 allInOne; written = told-chain (chains.figured 639072336) }
+    ∷ record { asked = chaining (after tableLargest 0 []) (maxPlaces - 1) allInOne; written = told-chain (chains.figured 4019976374) }
     -- the figure is the table's: backlogs and credits make no difference, nor does a need that 7 would refuse. In T it is 4 + 7
     ∷ record { asked = chaining (after tableBasin 0 (post 0 9 ∷ post 4 2 ∷ slot ∷ slot ∷ slot ∷ [])) 4 allInOne; written = told-chain (chains.figured 65) }
     ∷ record { asked = chaining (stateOf tableTShort 0 []) 1 (nobody ∷ 0 ∷ []); written = told-chain (chains.figured 11) }

@@ -63,7 +63,7 @@ limitRows =
     }
     -- counts far beyond 65,535; a backlog and a count that pass the limit only together; a place that is not below N
     ∷ record {
-      asked = calling tableT 0 (post 0 65536 ∷ post 1 4294967295 ∷ post 1 40000 ∷ post 1 40000 ∷ post 2 1 ∷ post 15 0 ∷ []);
+      asked = calling tableT 0 (post 0 65536 ∷ post 1 4294967295 ∷ post 1 40000 ∷ post 1 40000 ∷ post 2 1 ∷ post (maxPlaces - 1) 0 ∷ []);
       written = told accepted
           (refused (refusal 21) ∷ refused (refusal 21) ∷ accepted ∷ refused (refusal 21) ∷ refused (refusal 11) ∷ refused (refusal 11) ∷ [])
           (standing 0 (8 ∷ 4 ∷ []) (0 ∷ 40000 ∷ []));

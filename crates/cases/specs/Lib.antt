@@ -7,4 +7,5 @@ pub mod LogRows
 pub mod ListingRows
 pub mod RequestRows
 pub mod ChainRows
+pub mod CarryRows
 pub mod Cases

@@ -1,7 +1,8 @@
 -- Document 02: the worked examples of the change requests, and edges of each, worked out by hand.
 use mathlib.Core.List.{List, [], _∷_, _++_}
-use Prim.Native.Nat.{ℕ}
-use lib.ListN.{replicate}
+use Prim.Native.Nat.{ℕ, suc, _-_}
+use lib.ListN.{length, replicate}
+use Rattle.terms.specs.Limits.{maxPlaces}
 use Rattle.terms.specs.Table.{Table}
 use Rattle.terms.specs.declared.place.Requestor.{Requestor}
 use Rattle.terms.specs.Refusals.{faultless, fault, refusal, refusalAt}
@@ -73,11 +74,11 @@ tableBasin = table 20 5 (row 4 40 2 10 ∷ row 2 20 1 15 ∷ row 2 20 1 15 ∷ r
 unfoldable pub tableGuessed : Table
 tableGuessed = table 20 5 (row 8 160 8 50 ∷ row 4 60 3 25 ∷ row 2 20 1 15 ∷ row 2 20 1 15 ∷ row 4 40 2 10 ∷ [])
 
--- sixteen alike but for their L
-unfoldable pub tableSixteen : (withins : List ℕ) → Table
-tableSixteen withins = table 16 16 (rowsOf 16 (replicate 16 1) (replicate 16 16) (replicate 16 1) withins)
+-- as many as there are L, alike but for these: each has its share of the line, and a burst of one transfer
+unfoldable pub tableAlike : (withins : List ℕ) → Table
+tableAlike withins = let n = length withins in table n n (rowsOf n (replicate n 1) (replicate n n) (replicate n 1) withins)
 
--- to each its figure at its place: 16, and then rounded up 16 + 16 × p / (16 − p)
+-- to each its figure at its place: of N places N, and then rounded up N + N × p / (N − p)
 unfoldable pub withinsRising : List ℕ
 withinsRising = 16 ∷ 18 ∷ 19 ∷ 20 ∷ 22 ∷ 24 ∷ 26 ∷ 29 ∷ 32 ∷ 37 ∷ 43 ∷ 52 ∷ 64 ∷ 86 ∷ 128 ∷ 256 ∷ []
 
@@ -85,15 +86,15 @@ withinsRising = 16 ∷ 18 ∷ 19 ∷ 20 ∷ 22 ∷ 24 ∷ 26 ∷ 29 ∷ 32 ∷ 3
 unfoldable pub withinsFalling : (last first : ℕ) → List ℕ
 withinsFalling last first = last ∷ 128 ∷ 86 ∷ 64 ∷ 52 ∷ 43 ∷ 37 ∷ 32 ∷ 29 ∷ 26 ∷ 24 ∷ 22 ∷ 20 ∷ 19 ∷ 18 ∷ first ∷ []
 
--- fifteen with the largest burst and L, and one that takes the rest of the line
+-- with the largest burst and L, all but one; and one that takes the rest of the line
 unfoldable pub patient : Requestor
 patient = row 1 16777216 1 1073741824
 
 unfoldable pub greedy : (within : ℕ) → Requestor
-greedy within = row 65520 16777216 255 within
+greedy within = row (65535 - (maxPlaces - 1)) 16777216 255 within
 
 unfoldable pub tableWhole : List Requestor → Table
-tableWhole rows = table 65535 16 rows
+tableWhole rows = table 65535 maxPlaces rows
 
 unfoldable pub searchRows : List Row
 searchRows =
@@ -154,14 +155,14 @@ searchRows =
     -- one requestor: its need holds alone, or no order passes
     ∷ record { asked = ordering (table 4 1 (row 1 4 1 4 ∷ [])); written = ordered-as accepted (table 4 1 (row 1 4 1 4 ∷ [])) }
     ∷ record { asked = ordering (table 4 1 (row 1 4 1 3 ∷ [])); written = ordered-as (refused (refusal 15)) allZero }
-    -- sixteen, in order already; and with the most urgent listed last, where every place takes the search to the first that remains
-    ∷ record { asked = ordering (tableSixteen withinsRising); written = ordered-as accepted (tableSixteen withinsRising) }
-    ∷ record { asked = ordering (tableSixteen (withinsFalling 256 16)); written = ordered-as accepted (tableSixteen withinsRising) }
-    ∷ record { asked = ordering (tableSixteen (withinsFalling 255 16)); written = ordered-as (refused (refusal 15)) allZero }
-    ∷ record { asked = ordering (tableSixteen (withinsFalling 256 15)); written = ordered-as (refused (refusal 15)) allZero }
-    -- the largest bursts and D: below 15 of them the last takes 4,096 slots, and below 14 of them 3,840
-    ∷ record { asked = ordering (tableWhole (replicate 15 patient ++ greedy 4096 ∷ [])); written = ordered-as accepted (tableWhole (replicate 15 patient ++ greedy 4096 ∷ [])) }
-    ∷ record { asked = ordering (tableWhole (replicate 15 patient ++ greedy 4095 ∷ [])); written = ordered-as accepted (tableWhole (replicate 14 patient ++ greedy 4095 ∷ patient ∷ [])) }
+    -- many, in order already; and with the most urgent listed last, where every place takes the search to the first that remains
+    ∷ record { asked = ordering (tableAlike withinsRising); written = ordered-as accepted (tableAlike withinsRising) }
+    ∷ record { asked = ordering (tableAlike (withinsFalling 256 16)); written = ordered-as accepted (tableAlike withinsRising) }
+    ∷ record { asked = ordering (tableAlike (withinsFalling 255 16)); written = ordered-as (refused (refusal 15)) allZero }
+    ∷ record { asked = ordering (tableAlike (withinsFalling 256 15)); written = ordered-as (refused (refusal 15)) allZero }
+    -- the largest bursts, D and N: below 63 of them the last takes 16,400 slots, and below 62 of them 16,143
+    ∷ record { asked = ordering (tableWhole (replicate (maxPlaces - 1) patient ++ greedy 16400 ∷ [])); written = ordered-as accepted (tableWhole (replicate (maxPlaces - 1) patient ++ greedy 16400 ∷ [])) }
+    ∷ record { asked = ordering (tableWhole (replicate (maxPlaces - 1) patient ++ greedy 16399 ∷ [])); written = ordered-as accepted (tableWhole (replicate (maxPlaces - 2) patient ++ greedy 16399 ∷ patient ∷ [])) }
     -- a listed place is named: 3, 4 and 5 come ahead of 15, and so does 6
     ∷ record { asked = ordering (table 4 2 (row 1 4 1 3 ∷ row 0 4 1 7 ∷ [])); written = ordered-as (refused (refusalAt 3 1)) allZero }
     ∷ record { asked = ordering (table 4 2 (row 1 4 1 3 ∷ row 1 3 1 7 ∷ [])); written = ordered-as (refused (refusalAt 4 1)) allZero }
@@ -175,10 +176,10 @@ searchRows =
     -- ahead of all others come 1 and 2, the latter also for a row past the last place
     ∷ record { asked = ordering (table 0 2 (row 1 4 1 7 ∷ row 1 8 1 4 ∷ [])); written = ordered-as (refused (refusal 1)) allZero }
     ∷ record { asked = ordering (table 4 0 []); written = ordered-as (refused (refusal 2)) allZero }
-    ∷ record { asked = ordering (table 4 17 (row 1 4 1 7 ∷ [])); written = ordered-as (refused (refusal 2)) allZero }
+    ∷ record { asked = ordering (table 4 (suc maxPlaces) (row 1 4 1 7 ∷ [])); written = ordered-as (refused (refusal 2)) allZero }
     ∷ record { asked = ordering (table 4 1 (row 1 4 1 3 ∷ row 1 8 1 4 ∷ [])); written = ordered-as (refused (refusal 2)) allZero }
     ∷ record { asked = ordering (table 4 1 (row 0 4 1 3 ∷ row 0 0 0 1 ∷ [])); written = ordered-as (refused (refusal 2)) allZero }
-    ∷ record { asked = ordering (table 0 17 []); written = ordered-as (refused (refusal 1)) allZero }
+    ∷ record { asked = ordering (table 0 (suc maxPlaces) []); written = ordered-as (refused (refusal 1)) allZero }
     -- a place's 4 is ahead of the next one's 3, and a 5 is ahead of 6
     ∷ record { asked = ordering (table 4 2 (row 1 3 1 7 ∷ row 0 4 1 7 ∷ [])); written = ordered-as (refused (refusalAt 4 0)) allZero }
     ∷ record { asked = ordering (table 4 2 (row 3 4 1 1 ∷ row 2 4 0 1 ∷ [])); written = ordered-as (refused (refusalAt 5 1)) allZero }

@@ -11,12 +11,13 @@ use Rattle.terms.specs.declared.place.Requestor.{Requestor}
 use Rattle.terms.specs.Table.{Table, requestorAt, requestorsOf, tableOf}
 use Rattle.terms.specs.declared.place.Account.{Account}
 use Rattle.terms.specs.State.{State, credit, backlog, noAccount, accountAt, placeVerdict}
-use Rattle.terms.specs.Limits.{maxPlaces}
+use Rattle.terms.specs.Limits.{maxPlaces, oldPlaces}
 use Rattle.terms.specs.Refusals.{Verdict}
 use Rattle.terms.specs.Answers.{Answer}
 use Rattle.terms.specs.Figures.{burstsAbove, rateLeft, wait, finish, admissionVerdict}
 use Rattle.terms.specs.Input.{inputVerdict}
 use Rattle.terms.specs.Start.{start}
+use Rattle.carrying.specs.Carry.{OldState, present, carry}
 use Rattle.terms.specs.Asked.{FiguresAnswer}
 use Rattle.terms.specs.Asked as asked
 use Rattle.terms.specs.Chain.{ChainAnswer}
@@ -80,11 +81,16 @@ pub data Question : Type 0 where
   -- bytes into the first `room` bytes of a buffer, which alone are lent
   takingNumber : (bytes : List ℕ) → Question
   lendingNumber : ℕ → (room : ℕ) → (buffer : List ℕ) → Question
-  -- a table from its bytes, and a table's bytes into a lent buffer
+  -- a table from its bytes, and under another limit, and a table's bytes into a lent buffer
   reading : (bytes : List ℕ) → Question
+  readingUnder : (limit : ℕ) → (bytes : List ℕ) → Question
   writing : Table → (old : List ℕ) → Question
-  -- what admission finds
+  -- what admission finds, and what it finds under another limit
   admission : Table → Question
+  admissionUnder : (limit : ℕ) → Table → Question
+  -- an old state carried over; and so many slots of it under the old limit, and of what it is carried over to under the new one
+  carrying : OldState → Question
+  besideOld : OldState → (slots : ℕ) → Question
   -- what a start answers, and the whole state that it hands back
   starting : Table → (first : ℕ) → Question
   -- what a start answers, and the calls from it, and how the state stands then
@@ -144,6 +150,7 @@ pub data Reply : Type 0 where
   answered : Answer → Standing → Reply
   replayed : (started : Answer) (answers : List ℕ) → Standing → Reply
   ran : Answer → (log : List ℕ) → Standing → Reply
+  ran-both : (old-log : List ℕ) → Standing → (log : List ℕ) → Standing → Reply
   led : LeadAnswer → Reply
   told-figures : FiguresAnswer → Reply
   told-chain : ChainAnswer → Reply
@@ -180,8 +187,15 @@ reply (lendingNumber x room buffer) =
     let w = numberWritten x (take room buffer) in
     lent-as (length (numberBytes x)) (w .wrote) (w .buffer ++ drop room buffer)
 reply (reading given) = let r = readTable maxPlaces given in read-as (r .answer) (r .table)
+reply (readingUnder limit given) = let r = readTable limit given in read-as (r .answer) (r .table)
 reply (writing t old) = let w = writeTable maxPlaces t old in written-as (w .answer) (w .buffer)
 reply (admission t) = found (admissionVerdict maxPlaces t)
+reply (admissionUnder limit t) = found (admissionVerdict limit t)
+reply (carrying o) = let r = carry oldPlaces maxPlaces o in started-as (r .answer) (r .state)
+reply (besideOld o slots) =
+    let before = run oldPlaces (present o) (replicate slots 0) in
+    let over = run maxPlaces (carry oldPlaces maxPlaces o .state) (replicate slots 0) in
+    ran-both (before .log) (standsAt (o .count) (before .state)) (over .log) (standsAt (o .count) (over .state))
 reply (starting t first) = let begun = start maxPlaces t first in started-as (begun .answer) (begun .state)
 reply (calling t first calls) =
     let begun = start maxPlaces t first in

@@ -1,7 +1,8 @@
 -- What each call for firmware does to the memory that is lent to it, and its outcome, one number. The calls are those of documents 01 and 02
 -- on the state that the words are; how many places the words have room for is the `limit` of each. One of those with an outcome is lent
--- no state: it puts a table's bytes in order. `most` is the largest N. Words of any length but that of 1 to `most` places, a lent answer,
--- lent numbers or lent names of a wrong length are 255, ahead of all else. What is said of memory is said of it at exit; that lent
+-- no state: it puts a table's bytes in order; and one makes a state of an old state's words, whose room is the limit of its check. `most` is
+-- the largest N. Words of any length but that of 1 to `most` places, an old state's words, a lent answer, lent numbers or lent names of a
+-- wrong length are 255, ahead of all else, and so is less room than the old words had. What is said of memory is said of it at exit; that lent
 -- memory does not overlap is the caller's part, in Rattle and Rust by its types.
 use mathlib.Core.Bool.{Bool, true, _&&_}
 use mathlib.Core.List.{List, [], _∷_}
@@ -16,6 +17,7 @@ use Rattle.terms.specs.State.{State, credit, backlog, sound}
 use Rattle.terms.specs.Refusals.{refusal}
 use Rattle.terms.specs.Answers.{Answer, accepted, granted, idle, refused}
 use Rattle.terms.specs.Start.{start}
+use Rattle.carrying.specs.Carry.{carry}
 use Rattle.terms.specs.Asked as asked
 use Rattle.terms.specs.Chain as chains
 use Rattle.lead_parts.specs.Lead as leads
@@ -26,6 +28,8 @@ use Rattle.rule.specs.Log.{Outcome, run}
 use Rattle.layout.specs.Words.{wordCount, roomOf, rightLength, stateWords, stateOf}
 use Rattle.layout.specs.Numbers.{numbersTable, rightNumbers}
 use Rattle.starts.specs.Starts.{begun}
+use Rattle.carrying.specs.OldWords.{oldRoomOf, oldStateOf}
+use Rattle.carrying.specs.Fits.{fitsInto}
 use Rattle.ordered_bytes.specs.OrderBytes.{orderBytes}
 use Rattle.asking.specs.Look as look
 use Rattle.outcomes.specs.Outcomes.{refusalCode, answerCode, wrongLength}
@@ -88,7 +92,7 @@ ran most words log =
 
 -- ---- the calls that make a state. What the words held before does not matter; refused, they are those of the state whose every field is 0.
 
--- what a start leaves in the lent words, or what comes of a wrong length
+-- what such a call leaves in the lent words, or what comes of a wrong length
 unfoldable pub leaves : (lengths : Bool) → (words : List ℕ) → Result State Answer → Stated
 leaves lengths words made = pick lengths (stated made) (record { words = words; outcome = wrongLength })
 
@@ -100,6 +104,11 @@ started most bytes first words = leaves (rightLength most words) words (begun (r
 unfoldable pub startedOf : (most : ℕ) → (numbers : List ℕ) → (first : ℕ) → (words : List ℕ) → Stated
 startedOf most numbers first words =
     leaves (rightLength most words && rightNumbers (roomOf words) numbers) words (start (roomOf words) (numbersTable (roomOf words) numbers) first)
+
+-- from an old state's words, with room for at least as many places
+unfoldable pub carriedOver : (old-most most : ℕ) → (old words : List ℕ) → Stated
+carriedOver old-most most old words =
+    leaves (fitsInto old-most most old words) words (carry (oldRoomOf old) (roomOf words) (oldStateOf old))
 
 -- ---- the calls that ask: the state stays as it is, and a refused one leaves the lent answer as it was
 

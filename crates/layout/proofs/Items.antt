@@ -7,7 +7,7 @@ use native.Mathlib.Omega.{arith}
 use lib.ListN.{length, getD, drop, set, length-append}
 use Rattle.lists.specs.Sums.{joined}
 use Rattle.lists.specs.Pairs.{paired}
-use Rattle.layout.specs.Words.{placesFrom}
+use Rattle.lists.specs.Places.{placesFrom}
 
 -- ---- what a function gives at each place
 

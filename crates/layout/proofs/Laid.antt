@@ -4,11 +4,12 @@ use mathlib.Core.List.{List, [], _++_}
 use Prim.Native.Nat.{ℕ, _+_, _≤_, _<_}
 use native.Mathlib.Omega.{arith}
 use lib.ListN.{length, getD, set, take, drop, replicate, length-replicate}
+use Rattle.lists.specs.Places.{placesFrom}
 use Rattle.lists.proofs.Overwriting.{overwrite-more, overwrite-all}
 use Rattle.terms.specs.declared.place.Requestor.{Requestor}
 use Rattle.terms.specs.Table.{Table, noRequestor, tableOf}
 use Rattle.terms.specs.Start.{noState}
-use Rattle.layout.specs.Words.{wordCount, roomOf, placesFrom, wordsState, stateOf, putHead, putRow, withTable, withHead}
+use Rattle.layout.specs.Words.{wordCount, roomOf, wordsState, stateOf, putHead, putRow, withTable, withHead}
 use Rattle.layout.specs.Numbers.{numbersRow, numbersTable}
 use Rattle.layout.proofs.Items.{length-places, at-place}
 use Rattle.layout.proofs.RoundTrip.{room-of, words-shaped}

@@ -11,6 +11,7 @@ use lib.ListN.{length, getD, drop, drop-of-length-le}
 use lib.Seq.{drop-cons, getD-append-seam, getD-append-add}
 use Rattle.lists.specs.Sums.{joined}
 use Rattle.lists.specs.Pairs.{paired}
+use Rattle.lists.specs.Places.{placesFrom}
 use Rattle.lists.proofs.Sums.{length-joined-same}
 use Rattle.lists.proofs.Pairs.{length-paired}
 use Rattle.lists.proofs.Tests.{and-true, true-and, in-range, in-range-true}
@@ -18,7 +19,7 @@ use Rattle.terms.specs.declared.place.Requestor.{Requestor}
 use Rattle.terms.specs.declared.place.Account.{Account}
 use Rattle.terms.specs.State.{State, noAccount, Shaped}
 use Rattle.terms.specs.Table.{noRequestor}
-use Rattle.layout.specs.Words.{placeStart, wordCount, roomOf, rightLength, headWords, Place, place, placeWords, stateWords, rowFrom, accountFrom, rowIn, accountIn, placesFrom, wordsState}
+use Rattle.layout.specs.Words.{placeStart, wordCount, roomOf, rightLength, headWords, Place, place, placeWords, stateWords, rowFrom, accountFrom, rowIn, accountIn, wordsState}
 use Rattle.layout.specs.RoundTrip.{Words-read-back, Words-shaped, State-written-back}
 use Rattle.layout.proofs.Items.{length-places, at-place, map-places, paired-places, Items, written-read, read-written}
 

@@ -14,13 +14,14 @@ use lib.ListN.{length, getD, set, drop, replicate, drop-of-length-le, length-set
 use lib.Seq.{drop-cons, getD-set-same, getD-set-other}
 use Rattle.lists.specs.Sums.{every}
 use Rattle.lists.specs.Overwriting.{writtenOver}
+use Rattle.lists.specs.Places.{placesFrom}
 use Rattle.lists.proofs.Tests.{cases, and-false, every-end}
 use Rattle.terms.specs.declared.place.Requestor.{Requestor}
 use Rattle.terms.specs.declared.place.Account.{Account}
 use Rattle.terms.specs.Table.{noRequestor, requestorClear, tableOf}
 use Rattle.terms.specs.State.{noAccount, accountClear}
 use Rattle.terms.specs.Start.{noState}
-use Rattle.layout.specs.Words.{placeStart, wordCount, roomOf, rightLength, rowIn, accountIn, placesFrom, wordsState, putHead, putAccount, putRow, putSlotNumber, isZero, withAccount, withSlot, withHead, withRow}
+use Rattle.layout.specs.Words.{placeStart, wordCount, roomOf, rightLength, rowIn, accountIn, wordsState, putHead, putAccount, putRow, putSlotNumber, isZero, withAccount, withSlot, withHead, withRow}
 use Rattle.layout.proofs.Items.{same-places, set-places, drop-places}
 use Rattle.layout.proofs.RoundTrip.{places}
 

@@ -6,9 +6,10 @@ use Prim.Native.Nat.{ℕ, _+_, _*_}
 use lib.Dec.{eqb}
 use lib.ListN.{length, getD}
 use Rattle.lists.specs.Sums.{joined}
+use Rattle.lists.specs.Places.{placesFrom}
 use Rattle.terms.specs.declared.place.Requestor.{Requestor}
 use Rattle.terms.specs.Table.{Table, rowNumbers}
-use Rattle.layout.specs.Words.{rowFrom, placesFrom}
+use Rattle.layout.specs.Words.{rowFrom}
 
 -- where the numbers of place p begin
 abbrev pub rowStart : (p : ℕ) → ℕ

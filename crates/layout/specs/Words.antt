@@ -2,20 +2,21 @@
 -- backlog. Words may have room for more places than the table has; how many is told by their length.
 use mathlib.Core.Bool.{Bool, _&&_}
 use mathlib.Core.List.{List, [], _∷_, _++_}
-use Prim.Native.Nat.{ℕ, zero, suc, _+_, _-_, _*_, _/_}
+use Prim.Native.Nat.{ℕ, _+_, _-_, _*_, _/_}
 use lib.Dec.{eqb}
 use lib.ListN.{length, getD, set}
 use Rattle.lists.specs.Choices.{inRange}
 use Rattle.lists.specs.Sums.{joined}
 use Rattle.lists.specs.Pairs.{paired}
+use Rattle.lists.specs.Places.{placesFrom}
 use Rattle.terms.specs.declared.place.Requestor.{Requestor}
 use Rattle.terms.specs.Table.{Table, rowNumbers}
 use Rattle.terms.specs.declared.place.Account.{Account}
 use Rattle.terms.specs.State.{State}
 
--- the number of this layout; 1 had all rows, and then all accounts
+-- the number of this layout: 1 had all rows, and then all accounts; 2 was this one under the old limit, and its states are carried over (carrying)
 abbrev pub layoutVersion : ℕ
-layoutVersion = 2
+layoutVersion = 3
 
 -- ---- how many words
 
@@ -77,11 +78,6 @@ rowIn words p = rowFrom words (placeStart p)
 
 abbrev pub accountIn : List ℕ → (p : ℕ) → Account
 accountIn words p = accountFrom words (placeStart p)
-
--- what f gives at each of n places from place p on
-unfoldable pub placesFrom : {X : Type 0} → (ℕ → X) → (p n : ℕ) → List X
-placesFrom f p zero = []
-placesFrom f p (suc n) = f p ∷ placesFrom f (suc p) n
 
 unfoldable pub wordsState : (room : ℕ) → List ℕ → State
 wordsState room words = record {

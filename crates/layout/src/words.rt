@@ -12,7 +12,7 @@ ghost use Rattle.terms.specs.Limits.{maxPlaces};
 ghost use Rattle.layout.specs.Words.{isZero, placeStart, wordCount, roomOf, rightLength, rowIn, accountIn, putHead, putSlotNumber, putBacklog, putAccount, putRow};
 
 // The number of this layout. Words that were kept under another are another's.
-pub const LAYOUT: u64 = 2;
+pub const LAYOUT: u64 = 3;
 
 // D, N and the slot number stand ahead of the places.
 pub const HEAD: usize = 3;

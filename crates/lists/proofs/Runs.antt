@@ -27,6 +27,11 @@ module _ {S C A : Type 0} (step : S → C → Result S A) where
   end-more s (b ∷ calls) c = end-more (step s b .state) calls c
 
   -- more calls at the end: they get the state that the others handed back
+  pub end-append : (s : S) (calls more : List C) → end step s (calls ++ more) ≡ end step (end step s calls) more
+  unfolding end
+  end-append s [] more = refl
+  end-append s (c ∷ calls) more = end-append (step s c .state) calls more
+
   pub answers-append : (s : S) (calls more : List C) → answers step s (calls ++ more) ≡ answers step s calls ++ answers step (end step s calls) more
   unfolding end answers
   answers-append s [] more = refl

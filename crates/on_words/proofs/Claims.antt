@@ -7,7 +7,7 @@ use native.Mathlib.Omega.{arith}
 use borrow.Author.Tests.{eq-eqb}
 use lib.Dec.{eqb}
 use lib.IntN.{ℤ}
-use lib.ListN.{length, replicate, length-replicate, length-map, length-set}
+use lib.ListN.{length, replicate, length-replicate, length-map}
 use Rattle.lists.specs.Choices.{pick}
 use Rattle.lists.specs.Overwriting.{writtenOver}
 use Rattle.lists.specs.Runs.{Result, end, answers}
@@ -15,7 +15,7 @@ use Rattle.lists.proofs.Tests.{cases, true-false, and-true, true-and}
 use Rattle.terms.specs.declared.refusals.Refusal.{Refusal}
 use Rattle.terms.specs.declared.place.Account.{Account}
 use Rattle.terms.specs.State.{State, noAccount, sound, Shaped, placeVerdict}
-use Rattle.terms.specs.Table.{Table, noRequestor, tableOf, requestorsOf}
+use Rattle.terms.specs.Table.{Table, noRequestor, tableOf}
 use Rattle.terms.specs.Refusals.{Verdict, faultless, fault, refusal, gate, then, resolve}
 use Rattle.terms.specs.Answers.{Answer, accepted, granted, idle, refused, unless}
 use Rattle.terms.specs.Start.{fresh, opening, noState, startVerdict, start, turnedDown}
@@ -28,10 +28,10 @@ use Rattle.table_bytes.specs.Writing as writing
 use Rattle.table_bytes.proofs.Opened.{numbers-open, rows-taken}
 use Rattle.rule.specs.declared.rule.Grant.{Grant}
 use Rattle.rule.specs.declared.rule.Grant.the-variants.{Nobody, Place}
-use Rattle.rule.specs.Calls.{Call, post, slot, grantOf, advanced, withPost, slotAnswer, done, ruleVerdict, outcome, called}
+use Rattle.rule.specs.Calls.{Call, post, slot, grantOf, slotAnswer, done, ruleVerdict, outcome, called}
 use Rattle.rule.proofs.Verdicts.{called-unsound}
 use Rattle.rule.specs.Log.{Outcome, slotsState, slotsLog, runVerdict, run}
-use Rattle.rule.proofs.Slots.{after-length}
+use Rattle.rule.proofs.Longer.{call-shaped}
 use Rattle.rule.proofs.Logs.{run-unsound}
 use Rattle.layout.specs.Words.{wordCount, roomOf, rightLength, stateWords, stateOf}
 use Rattle.layout.specs.Numbers.{allNumbers, numbersRow, numbersTable, rightNumbers}
@@ -105,24 +105,6 @@ unfolding wrote
 write-by-value most room s buffer old v one ok = on-words most room s (eqb (length old) 1) _ _ v (eq-eqb (length old) 1 one) ∙ rw ok
 
 -- ---- calls in a row
-
--- a slot keeps the arrays' lengths, and so does a call
-pub slot-shaped : (room : ℕ) (s : State) (g : Grant) → Shaped room s → Shaped room (advanced s g)
-unfolding advanced
-slot-shaped room s g h = record {
-  rows = h .rows;
-  accounts = after-length (s .table .denominator) g (requestorsOf (s .table)) (s .accounts) ∙ h .accounts;
-}
-
-outcome-shaped : (room : ℕ) (v : Verdict) (s : State) (c : Call) → Shaped room s → Shaped room (outcome v s c .state)
-unfolding done withPost
-outcome-shaped room faultless s (post p count) h = record { rows = h .rows; accounts = simp length-set (h .accounts) }
-outcome-shaped room faultless s slot h = slot-shaped room s (grantOf s) h
-outcome-shaped room (fault r) s c h = h
-
-pub call-shaped : (room : ℕ) (s : State) (c : Call) → Shaped room s → Shaped room (called room s c .state)
-unfolding called
-call-shaped room s c h = outcome-shaped room (gate (refusal 23) (sound room s) (ruleVerdict s c)) s c h
 
 -- a post leaves the lent answer
 post-answer : (v : Verdict) (s : State) (p count : ℕ) (old : List ℕ) → slotWords old (outcome v s (post p count) .answer) ≡ old
@@ -447,13 +429,13 @@ clear-words most words long =
 
 -- whatever made it
 module _ (most : ℕ) (words : List ℕ) (lengths : Bool) (d : Result State Answer) (ends : Ends (roomOf words) (answerCode (d .answer)) (d .state ≡ noState (roomOf words))) where
-  clears : (lengths ≡ true → rightLength most words ≡ true) → Clears words (leaves lengths words d)
+  pub clears : (lengths ≡ true → rightLength most words ≡ true) → Clears words (leaves lengths words d)
   unfolding leaves
   clears long = cases lengths
       (λ q. rw q ((λ h k. ap stateWords (all-stands ends h) ∙ clear-words most words (long q)), λ e. absurd (never-255 ends e)))
       (λ q. rw q ((λ h k. absurd (k refl)), λ e. refl))
 
-  leaves-255 : Exactly-255 lengths (leaves lengths words d .outcome)
+  pub leaves-255 : Exactly-255 lengths (leaves lengths words d .outcome)
   unfolding leaves
   leaves-255 = cases lengths
       (λ q. rw q ((λ f. true-false f), λ f. absurd (never-255 ends f)))

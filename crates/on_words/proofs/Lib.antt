@@ -1,4 +1,4 @@
--- The claims, that room makes no difference, and the one proof that all rows pass.
+-- The claims, that room makes no difference, an old unit's words, and the one proof that all rows pass.
 pub mod Claims
 pub mod Begins
 pub mod Installed
@@ -6,4 +6,5 @@ pub mod Ordered
 pub mod Longer
 pub mod LongerStart
 pub mod Room
+pub mod Carried
 pub mod Rows

@@ -23,6 +23,8 @@ use Rattle.terms.specs.Refusals.{Verdict, faultless, fault, refusal, gate, then
 use Rattle.terms.specs.Answers.{Answer, accepted, granted, idle, refused, unless}
 use Rattle.terms.specs.Figures.{admissionVerdict}
 use Rattle.terms.specs.Start.{fresh, opening, noState, startVerdict, start, turnedDown}
+use Rattle.terms.specs.Longer.{longerTable, longer}
+use Rattle.terms.proofs.Longer.{same-rows, same-admission}
 use Rattle.terms.proofs.Checks.{held-open}
 use Rattle.terms.proofs.Tables.{table-length}
 use Rattle.terms.specs.TableResult.{TableResult, accept, refuse}
@@ -33,7 +35,6 @@ use Rattle.layout.proofs.TableNumbers.{numbers-read-back, table-written-back}
 use Rattle.starts.specs.Starts.{begun}
 use Rattle.on_words.specs.Room.{moreNumbers}
 use Rattle.on_words.proofs.Claims.{read-long, numbers-rows}
-use Rattle.on_words.proofs.Longer.{longerTable, longer, same-rows, same-admission}
 
 -- ---- a start
 

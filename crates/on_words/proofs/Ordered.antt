@@ -38,7 +38,8 @@ use Rattle.justrave.specs.Exported.{Wrote, writeTold, started, ordered}
 use Rattle.on_words.specs.Ordered.{Order-refused, Order-255, Order-accepted, Ordered-bytes-begin}
 use Rattle.on_words.proofs.Claims.{Ends, turned, all-stands, never-255, written-ends}
 use Rattle.on_words.proofs.Begins.{bytes-begin-demand-3, accepted-bytes-tell-0}
-use Rattle.on_words.proofs.Longer.{longerTable, same-admission}
+use Rattle.terms.specs.Longer.{longerTable}
+use Rattle.terms.proofs.Longer.{same-admission}
 use Rattle.on_words.proofs.LongerStart.{table-longer}
 
 module _ (most : ℕ) (bytes buffer old : List ℕ) where

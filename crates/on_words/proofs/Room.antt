@@ -2,7 +2,7 @@
 use mathlib.Core.Path.{_≡_, refl, ap, sym, _∙_}
 use mathlib.Core.Bool.{Bool, true, _&&_}
 use mathlib.Core.List.{List, [], _∷_, _++_}
-use Prim.Native.Nat.{ℕ, zero, suc, _+_, _≤_}
+use Prim.Native.Nat.{ℕ, _+_, _≤_}
 use native.Mathlib.Omega.{arith}
 use borrow.Author.Tests.{eqb-true, eqb-false, eq-eqb, ne-eqb}
 use lib.Dec.{eqb}
@@ -10,10 +10,14 @@ use lib.ListN.{length, length-append}
 use Rattle.lists.specs.Runs.{Result, end, answers}
 use Rattle.lists.proofs.Tests.{cases, and-true}
 use Rattle.terms.specs.State.{State, sound, Shaped}
-use Rattle.terms.specs.Refusals.{Verdict, faultless, fault, refusal, resolve}
-use Rattle.terms.specs.Answers.{Answer, accepted, refused}
-use Rattle.rule.specs.Calls.{Call, post, slot, grantOf, advanced, called}
-use Rattle.rule.specs.Log.{Outcome, slotsState, slotsLog, runVerdict, run}
+use Rattle.terms.specs.Refusals.{refusal}
+use Rattle.terms.specs.Answers.{Answer, refused}
+use Rattle.rule.specs.Calls.{Call, post, slot, called}
+use Rattle.rule.specs.Log.{run}
+use Rattle.terms.specs.Longer.{longer}
+use Rattle.terms.proofs.Longer.{longer-shaped, few-places, same-sound, same-figures}
+use Rattle.rule.proofs.Longer.{call-shaped, run-shaped, same-call, same-run}
+use Rattle.carried_over.proofs.Longer.{same-chain-named, same-look, same-standing, same-lead, same-write}
 use Rattle.layout.specs.Words.{stateWords, roomOf, rightLength, stateOf}
 use Rattle.layout.specs.Numbers.{rightNumbers, numbersTable}
 use Rattle.layout.proofs.RoundTrip.{right, words-shaped, state-written-back, words-read-back, length-state}
@@ -22,26 +26,13 @@ use Rattle.outcomes.specs.Outcomes.{refusalCode}
 use Rattle.justrave.specs.Exported.{onState, posted, slotted, ran, leaves, started, startedOf, Figured, figured, chainTold, chained, accountTold, standingTold, Led, led, Wrote, wrote}
 use Rattle.on_words.specs.Claims.{Lent, lentCall}
 use Rattle.on_words.specs.Room.{more, Unless-2, stated-more, slotted-more, ran-more, Alike, Any-room, Any-room-in-a-row}
-use Rattle.on_words.proofs.Claims.{slot-shaped, call-shaped, numbers-rows, start-shaped, start-of-numbers-shaped}
-use Rattle.on_words.proofs.Longer.{longer, longer-shaped, longer-words, few-places, same-sound, same-call, same-run, same-figures, same-chain, same-look, same-standing, same-lead, same-write}
+use Rattle.on_words.proofs.Claims.{numbers-rows, start-shaped, start-of-numbers-shaped}
+use Rattle.on_words.proofs.Longer.{longer-words}
 use Rattle.on_words.proofs.LongerStart.{made-longer, same-start, same-begun, same-numbers, same-count}
 
 -- ---- the calls on words
 
-slots-shaped : (room k : ℕ) (s : State) → Shaped room s → Shaped room (slotsState k s)
-unfolding slotsState
-slots-shaped room zero s v = v
-slots-shaped room (suc k) s v = slots-shaped room k (advanced s (grantOf s)) (slot-shaped room s (grantOf s) v)
-
-run-shaped : (room : ℕ) (s : State) (log : List ℕ) → Shaped room s → Shaped room (run room s log .state)
-unfolding run
-run-shaped room s log v = by (runVerdict room s (length log))
-  where
-    by : (w : Verdict) → Shaped room (resolve {X = Outcome} w (record { state = slotsState (length log) s; answer = accepted; log = slotsLog (length log) s }) (λ r. record { state = s; answer = refused r; log = log }) .state)
-    by faultless = slots-shaped room (length log) s v
-    by (fault r) = v
-
-module _ (most extra : ℕ) (words : List ℕ) (long : rightLength most words ≡ true) (enough-room : roomOf words + extra ≤ most) where
+module _ (old-most most extra : ℕ) (words : List ℕ) (long : rightLength old-most words ≡ true) (enough-room : roomOf words + extra ≤ most) where
   abbrev room : ℕ
   room = roomOf words
 
@@ -52,23 +43,23 @@ module _ (most extra : ℕ) (words : List ℕ) (long : rightLength most words �
   shape = words-shaped room words
 
   more-words : more extra words ≡ stateWords (longer extra held)
-  more-words = ap (more extra) (sym (state-written-back most words long)) ∙ sym (longer-words room extra held shape)
+  more-words = ap (more extra) (sym (state-written-back old-most words long)) ∙ sym (longer-words room extra held shape)
 
   read-more : (rightLength most (more extra words) ≡ true) × (roomOf (more extra words) ≡ room + extra) × (stateOf (more extra words) ≡ longer extra held)
   read-more =
-      let back = words-read-back most (room + extra) (longer extra held) (longer-shaped room extra held shape) (omega (arith, right most words long .some)) enough-room in
+      let back = words-read-back most (room + extra) (longer extra held) (longer-shaped room extra held shape) (omega (arith, right old-most words long .some)) enough-room in
       rw more-words (back .0, back .1, rw (back .1) (back .2))
 
   -- what f makes of both ends of a call on the words is what the call on the longer ones comes to
   on-more-beside : {X : Type 0} (f : X → X) (beside wide : Bool) (down shut : X) (call roomy : ℕ → State → X) → wide ≡ beside → shut ≡ f down
-      → (beside ≡ true → roomy (room + extra) (longer extra held) ≡ f (call room held)) → onState most (more extra words) wide shut roomy ≡ f (onState most words beside down call)
+      → (beside ≡ true → roomy (room + extra) (longer extra held) ≡ f (call room held)) → onState most (more extra words) wide shut roomy ≡ f (onState old-most words beside down call)
   unfolding onState
   on-more-beside f beside wide down shut call roomy same a b =
       rw (read-more .0, read-more .2, read-more .1, long, same) (cases beside (λ q. rw q (b q)) (λ q. rw q a))
 
   -- where both are lent the same beside the words
   on-more : {X : Type 0} (f : X → X) (beside : Bool) (down shut : X) (call : ℕ → State → X) → shut ≡ f down
-      → call (room + extra) (longer extra held) ≡ f (call room held) → onState most (more extra words) beside shut call ≡ f (onState most words beside down call)
+      → call (room + extra) (longer extra held) ≡ f (call room held) → onState most (more extra words) beside shut call ≡ f (onState old-most words beside down call)
   on-more f beside down shut call a b = on-more-beside f beside beside down shut call call refl a (λ q. b)
 
   -- as many names, and as many more as there are places more
@@ -91,7 +82,7 @@ module _ (most extra : ℕ) (words : List ℕ) (long : rightLength most words �
       (λ q. rw q (λ h. rw (same q (λ f. h (rw f)), longer-words room extra (made .state) v)))
       (λ q. rw q (λ h. refl)))
 
-  all-alike : Alike most extra words
+  all-alike : Alike old-most most extra words
   unfolding started startedOf posted slotted ran figured chained accountTold standingTold led wrote
   all-alike = record {
     post = λ p count. on-more (stated-more extra) true _ _ _ refl
@@ -100,12 +91,12 @@ module _ (most extra : ℕ) (words : List ℕ) (long : rightLength most words �
         (rw (same-call room extra held shape slot, longer-words room extra (called room held slot .state) (call-shaped room held slot shape)));
     run = λ log. on-more (ran-more extra) true _ _ _ refl
         (rw (same-run room extra held shape log, longer-words room extra (run room held log .state) (run-shaped room held log shape)));
-    start = λ bytes first. rw (read-more .1, read-more .0) (on-leaves (rightLength most words) true _ _ (sym long) (start-shaped room bytes first) (λ q. same-begun room extra bytes first));
-    numbers = λ numbers first. rw (read-more .1, read-more .0, same-count room extra numbers) (on-leaves (rightLength most words && rightNumbers room numbers) (rightNumbers room numbers) _ _ (rw long) (start-of-numbers-shaped room numbers first)
-        (λ q h. rw (same-numbers room extra numbers (and-true (rightLength most words) _ q .1)) (same-start room extra (numbersTable room numbers) (numbers-rows room numbers) first h)));
+    start = λ bytes first. rw (read-more .1, read-more .0) (on-leaves (rightLength old-most words) true _ _ (sym long) (start-shaped room bytes first) (λ q. same-begun room extra bytes first));
+    numbers = λ numbers first. rw (read-more .1, read-more .0, same-count room extra numbers) (on-leaves (rightLength old-most words && rightNumbers room numbers) (rightNumbers room numbers) _ _ (rw long) (start-of-numbers-shaped room numbers first)
+        (λ q h. rw (same-numbers room extra numbers (and-true (rightLength old-most words) _ q .1)) (same-start room extra (numbersTable room numbers) (numbers-rows room numbers) first h)));
     figures = λ p j old. on-more (λ (x : Figured). x) (eqb (length old) 2) _ _ _ refl (rw (same-figures room extra held shape p j));
     chain = λ p names past old more-names. on-more-beside (λ (x : Figured). x) (eqb (length old) 1 && eqb (length names) room) _ _ _ _ _ (ap (λ b. eqb (length old) 1 && b) (same-many names past more-names)) refl
-        (λ q. ap (chainTold old) (same-chain room extra held shape p names past (eqb-true (length names) room (and-true (eqb (length old) 1) _ q .1))));
+        (λ q. ap (chainTold old) (same-chain-named room extra held shape p names past (eqb-true (length names) room (and-true (eqb (length old) 1) _ q .1))));
     account = λ p old. on-more (λ (x : Figured). x) (eqb (length old) 2) _ _ _ refl (rw (same-look room extra held shape p));
     standing = λ old. on-more (λ (x : Figured). x) (eqb (length old) 2) _ _ _ refl (rw (same-standing room extra held shape));
     lead = λ p log old. on-more (λ (x : Led). x) (eqb (length old) 1) _ _ _ refl (rw (same-lead room extra held shape p log));
@@ -115,7 +106,7 @@ module _ (most extra : ℕ) (words : List ℕ) (long : rightLength most words �
   }
 
 pub any-room : Any-room
-any-room most extra words long few = all-alike most extra words long few
+any-room old-most most extra words long few = all-alike old-most most extra words long few
 
 -- ---- in a row
 
@@ -135,18 +126,18 @@ module _ (most : ℕ) (lent : Lent) (long : rightLength most (lent .words) ≡ t
 abbrev roomy : (extra : ℕ) → Lent → Lent
 roomy extra lent = record { words = more extra (lent .words); answer = lent .answer }
 
-one-call : (most extra : ℕ) (lent : Lent) (c : Call) → Alike most extra (lent .words)
-    → lentCall most (roomy extra lent) c ≡ (let r = lentCall most lent c in record { state = roomy extra (r .state); answer = r .answer })
-one-call most extra lent (post p count) same = rw (same .post p count)
-one-call most extra lent slot same = rw (same .slot (lent .answer))
+one-call : (old-most most extra : ℕ) (lent : Lent) (c : Call) → Alike old-most most extra (lent .words)
+    → lentCall most (roomy extra lent) c ≡ (let r = lentCall old-most lent c in record { state = roomy extra (r .state); answer = r .answer })
+one-call old-most most extra lent (post p count) same = rw (same .post p count)
+one-call old-most most extra lent slot same = rw (same .slot (lent .answer))
 
 pub any-room-in-a-row : Any-room-in-a-row
 unfolding end answers
-any-room-in-a-row most extra lent [] long few = (refl, refl)
-any-room-in-a-row most extra lent (c ∷ calls) long few =
-    let next = lentCall most lent c .state in
-    let stays = same-length most lent long c in
+any-room-in-a-row old-most most extra lent [] long few = (refl, refl)
+any-room-in-a-row old-most most extra lent (c ∷ calls) long few =
+    let next = lentCall old-most lent c .state in
+    let stays = same-length old-most lent long c in
     let here : roomOf (next .words) ≡ roomOf (lent .words) = same-room (lent .words) (next .words) stays in
-    let rest = any-room-in-a-row most extra next calls (right-stands most (lent .words) (next .words) stays long) (omega (arith, here, few)) in
-    let one = one-call most extra lent c (any-room most extra (lent .words) long few) in
-    (rw one (rest .0), rw one (ap (λ l. lentCall most lent c .answer ∷ l) (rest .1)))
+    let rest = any-room-in-a-row old-most most extra next calls (right-stands old-most (lent .words) (next .words) stays long) (omega (arith, here, few)) in
+    let one = one-call old-most most extra lent c (any-room old-most most extra (lent .words) long few) in
+    (rw one (rest .0), rw one (ap (λ l. lentCall old-most lent c .answer ∷ l) (rest .1)))

@@ -6,12 +6,14 @@ use Rattle.lists.specs.Sums.{total, joined, every, upTo}
 use Rattle.lists.specs.Orders.{without}
 use Rattle.lists.specs.Pairs.{paired}
 use Rattle.lists.specs.Overwriting.{writtenOver}
+use Rattle.lists.specs.Places.{placesFrom}
 use Rattle.groups.specs.Groups.{lastGroup, combined, laterGroups, numberOf, groupsOf, numberBytes}
 use Rattle.terms.specs.Refusals.{gate, then}
 use Rattle.terms.specs.Table.{tableOf, heldTo, rowVerdict, eachPlace, tailVerdict, rateSumVerdict, tableVerdict}
 use Rattle.terms.specs.Figures.{roundedUp, finish, finishVerdict, admissionVerdict}
 use Rattle.terms.specs.State.{accountsHold, sound, placeVerdict}
 use Rattle.terms.specs.Start.{opening, noState, startVerdict, start}
+use Rattle.carrying.specs.Carry.{carry}
 use Rattle.terms.specs.Asked.{figuresVerdict, figures}
 use Rattle.terms.specs.Chain.{named, follows, chainTo, chainFigure, nameVerdict, circleVerdict, followingVerdict, chainVerdict, chain}
 use Rattle.terms.specs.Input.{inputVerdict}
@@ -21,15 +23,17 @@ use Rattle.table_bytes.specs.Writing.{tableNumbers, tableBytes, writeVerdict, w
 use Rattle.rule.specs.Rule.{eligible, later, firstEligible, served, passed, after}
 use Rattle.rule.specs.Calls.{grantOf, advanced, withCount, withPost, done, ruleVerdict, called}
 use Rattle.rule.specs.Log.{slotsState, slotsLog, slotsVerdict, runVerdict, run}
-use Rattle.layout.specs.Words.{roomOf, rightLength, stateWords, placesFrom, wordsState}
+use Rattle.layout.specs.Words.{roomOf, rightLength, stateWords, wordsState}
 use Rattle.layout.specs.Numbers.{numbersTable}
 use Rattle.starts.specs.Starts.{begun}
+use Rattle.carrying.specs.OldWords.{oldRoomOf, oldRightLength, oldWordsState}
+use Rattle.carrying.specs.Fits.{fitsInto}
 use Rattle.asking.specs.Look.{accountAsked, standing}
 use Rattle.ordering.specs.Order.{needHolds, lastHolding, filledUp}
 use Rattle.ordered_bytes.specs.OrderBytes.{listedVerdict, orderRead, orderBytes}
 use Rattle.outcomes.specs.Outcomes.{refusalCode}
-use Rattle.justrave.specs.Exported.{onState, posted, slotted, ran, leaves, started, startedOf, figured, chained, accountTold, standingTold, led, wrote, ordered}
-use Rattle.on_words.specs.Rows.{wordsIn, startRows, numberRows, postRows, slotRows, runRows, askedRows, chainRows, writeRows, lookRows, roomRows, orderRows, lengthRows, Pass, All-pass}
+use Rattle.justrave.specs.Exported.{onState, posted, slotted, ran, leaves, started, startedOf, carriedOver, figured, chained, accountTold, standingTold, led, wrote, ordered}
+use Rattle.on_words.specs.Rows.{wordsIn, startRows, numberRows, carryRows, postRows, slotRows, runRows, askedRows, chainRows, writeRows, lookRows, roomRows, orderRows, lengthRows, Pass, All-pass}
 
 start-pass : Pass startRows
 unfolding roomOf rightLength placesFrom wordsState stateWords joined paired refusalCode wordsIn total every gate then heldTo rowVerdict eachPlace tailVerdict rateSumVerdict tableVerdict roundedUp finish finishVerdict admissionVerdict tableOf writtenOver opening noState startVerdict start leaves lastGroup combined laterGroups numberOf next fieldRead rowRead itemsRead placesRead numbersRead lastVerdict settled readTable begun started startRows
@@ -38,6 +42,10 @@ start-pass = refl
 number-pass : Pass numberRows
 unfolding roomOf rightLength placesFrom wordsState stateWords joined paired refusalCode wordsIn total every gate then heldTo rowVerdict eachPlace tailVerdict rateSumVerdict tableVerdict roundedUp finish finishVerdict admissionVerdict tableOf writtenOver opening noState startVerdict start leaves numbersTable startedOf numberRows
 number-pass = refl
+
+carry-pass : Pass carryRows
+unfolding roomOf rightLength placesFrom wordsState stateWords joined paired refusalCode wordsIn total every gate then heldTo rowVerdict eachPlace tailVerdict rateSumVerdict tableVerdict tableOf writtenOver noState upTo accountsHold sound oldRoomOf oldRightLength fitsInto oldWordsState carry leaves carriedOver carryRows
+carry-pass = refl
 
 post-pass : Pass postRows
 unfolding roomOf rightLength placesFrom wordsState stateWords joined paired refusalCode wordsIn total every gate then heldTo rowVerdict eachPlace tailVerdict rateSumVerdict tableVerdict upTo accountsHold sound withCount withPost done ruleVerdict called onState posted postRows
@@ -80,4 +88,4 @@ unfolding roomOf rightLength placesFrom wordsState stateWords joined paired refu
 length-pass = refl
 
 pub all-pass : All-pass
-all-pass = (start-pass, number-pass, post-pass, slot-pass, run-pass, asked-pass, chain-pass, write-pass, look-pass, room-pass, order-pass, length-pass, refl)
+all-pass = (start-pass, number-pass, carry-pass, post-pass, slot-pass, run-pass, asked-pass, chain-pass, write-pass, look-pass, room-pass, order-pass, length-pass, refl)

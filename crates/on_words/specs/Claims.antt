@@ -1,7 +1,7 @@
 -- What holds of the calls on lent words beyond each one's own definition. On a state's words, with room for as many places as one likes up
 -- to the largest N, they are the calls by value, one by one and in a row, and any words of a right length are a state's (layout, RoundTrip).
 -- 255 tells a wrong length and 23 a state that breaks a rule. An outcome other than 0 says that nothing was done to what was lent; a refused
--- start alone clears the words. `most` is the largest N. That room makes no difference: Room.
+-- start or carrying over alone clears the words. `most` is the largest N. That room makes no difference: Room.
 use mathlib.Core.Path.{_≡_}
 use mathlib.Core.Bool.{Bool, true, false, _&&_}
 use mathlib.Core.List.{List, [], _∷_, map}
@@ -134,7 +134,7 @@ Start-of-numbers-shaped = (room : ℕ) (numbers : List ℕ) (first : ℕ) → Sh
 
 -- ---- 255 and 23
 
--- 255 is the outcome exactly where the lent words, the lent answer, the numbers or the names have a wrong length
+-- 255 is the outcome exactly where the lent words, an old state's words, the lent answer, the numbers or the names have a wrong length
 abbrev pub Exactly-255 : (lengths : Bool) → (outcome : ℕ) → Type 0
 Exactly-255 lengths outcome = (lengths ≡ false → outcome ≡ wrongLength) × (outcome ≡ wrongLength → lengths ≡ false)
 

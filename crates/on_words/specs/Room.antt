@@ -2,7 +2,8 @@
 -- the largest N, each call tells the same, and leaves the same words in front of as many zeros. Read the other way round: zeros behind may
 -- be left away. So it is with any words of a right length, and not a sound state's alone: the others are 23 both ways. Those among them
 -- whose N is above their room are so with more room too, since the zeros that N then counts as a place are no requestor's: its rate is 0.
--- A start alone can tell the room, by 2, where it is too little for N.
+-- A start can tell the room, by 2, where it is too little for N; and a carrying over, by 255. `most` is the largest N where the zeros are
+-- put behind, and `old-most` where they are not: in one unit the same, and beside an old unit that one's.
 use mathlib.Core.Path.{_≡_}
 use mathlib.Core.Bool.{true}
 use mathlib.Core.List.{List, _++_}
@@ -37,32 +38,32 @@ ran-more extra r = record { words = more extra (r .words); log = r .log; outcome
 abbrev pub Unless-2 : (extra : ℕ) → (without within : Stated) → Type 0
 Unless-2 extra without within = (without .outcome ≡ 2 → ⊥) → within ≡ stated-more extra without
 
-pub record Alike (most extra : ℕ) (words : List ℕ) : Type 0 where
+pub record Alike (old-most most extra : ℕ) (words : List ℕ) : Type 0 where
   -- the calls that change a state
-  pub post : (p count : ℕ) → posted most (more extra words) p count ≡ stated-more extra (posted most words p count)
-  pub slot : (old : List ℕ) → slotted most (more extra words) old ≡ slotted-more extra (slotted most words old)
-  pub run : (log : List ℕ) → ran most (more extra words) log ≡ ran-more extra (ran most words log)
+  pub post : (p count : ℕ) → posted most (more extra words) p count ≡ stated-more extra (posted old-most words p count)
+  pub slot : (old : List ℕ) → slotted most (more extra words) old ≡ slotted-more extra (slotted old-most words old)
+  pub run : (log : List ℕ) → ran most (more extra words) log ≡ ran-more extra (ran old-most words log)
   -- those that make one
-  pub start : (bytes : List ℕ) (first : ℕ) → Unless-2 extra (started most bytes first words) (started most bytes first (more extra words))
+  pub start : (bytes : List ℕ) (first : ℕ) → Unless-2 extra (started old-most bytes first words) (started most bytes first (more extra words))
   pub numbers : (numbers : List ℕ) (first : ℕ)
-      → Unless-2 extra (startedOf most numbers first words) (startedOf most (moreNumbers extra numbers) first (more extra words))
+      → Unless-2 extra (startedOf old-most numbers first words) (startedOf most (moreNumbers extra numbers) first (more extra words))
   -- the questions
-  pub figures : (p j : ℕ) (old : List ℕ) → figured most (more extra words) p j old ≡ figured most words p j old
+  pub figures : (p j : ℕ) (old : List ℕ) → figured most (more extra words) p j old ≡ figured old-most words p j old
   -- each further place has a name, and whatever these are makes no difference
-  pub chain : (p : ℕ) (names past old : List ℕ) → length past ≡ extra → chained most (more extra words) p (names ++ past) old ≡ chained most words p names old
-  pub account : (p : ℕ) (old : List ℕ) → accountTold most (more extra words) p old ≡ accountTold most words p old
-  pub standing : (old : List ℕ) → standingTold most (more extra words) old ≡ standingTold most words old
-  pub lead : (p : ℕ) (log : List ℕ) (old : List ℤ) → led most (more extra words) p log old ≡ led most words p log old
-  pub write : (buffer old : List ℕ) → wrote most (more extra words) buffer old ≡ wrote most words buffer old
+  pub chain : (p : ℕ) (names past old : List ℕ) → length past ≡ extra → chained most (more extra words) p (names ++ past) old ≡ chained old-most words p names old
+  pub account : (p : ℕ) (old : List ℕ) → accountTold most (more extra words) p old ≡ accountTold old-most words p old
+  pub standing : (old : List ℕ) → standingTold most (more extra words) old ≡ standingTold old-most words old
+  pub lead : (p : ℕ) (log : List ℕ) (old : List ℤ) → led most (more extra words) p log old ≡ led old-most words p log old
+  pub write : (buffer old : List ℕ) → wrote most (more extra words) buffer old ≡ wrote old-most words buffer old
 
 abbrev pub Any-room : Type 0
-Any-room = (most extra : ℕ) (words : List ℕ) → rightLength most words ≡ true → roomOf words + extra ≤ most → Alike most extra words
+Any-room = (old-most most extra : ℕ) (words : List ℕ) → rightLength old-most words ≡ true → roomOf words + extra ≤ most → Alike old-most most extra words
 
 -- any list of posts and slots: the words at the end, the lent answer, and each outcome
 abbrev pub Any-room-in-a-row : Type 0
 Any-room-in-a-row =
-    (most extra : ℕ) (lent : Lent) (calls : List Call) → rightLength most (lent .words) ≡ true → roomOf (lent .words) + extra ≤ most
+    (old-most most extra : ℕ) (lent : Lent) (calls : List Call) → rightLength old-most (lent .words) ≡ true → roomOf (lent .words) + extra ≤ most
     → let roomy : Lent = record { words = more extra (lent .words); answer = lent .answer } in
-    let last = end (lentCall most) lent calls in
+    let last = end (lentCall old-most) lent calls in
     (end (lentCall most) roomy calls ≡ record { words = more extra (last .words); answer = last .answer })
-    × (answers (lentCall most) roomy calls ≡ answers (lentCall most) lent calls)
+    × (answers (lentCall most) roomy calls ≡ answers (lentCall old-most) lent calls)

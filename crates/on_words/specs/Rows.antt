@@ -1,14 +1,14 @@
 -- Worked examples of the calls on lent words, with document 01's table T and cases 2, 3 and 5. A row is a call, and what was lent and the
--- outcome after it; what is not in the paper was worked out by hand. A state of T is 15 words in room for its 2 places, and 99 in room for
--- 16, the largest N.
+-- outcome after it; what is not in the paper was worked out by hand. A state of T is 15 words in room for its 2 places, and 387 in room
+-- for the largest N.
 use mathlib.Core.Path.{_≡_}
 use mathlib.Core.List.{List, [], _∷_, _++_, map}
-use Prim.Native.Nat.{ℕ, _+_, _-_, _*_}
+use Prim.Native.Nat.{ℕ, suc, _+_, _-_, _*_}
 use lib.IntN.{ℤ, pos, negsuc}
 use lib.ListN.{replicate}
-use Rattle.terms.specs.Limits.{maxPlaces, maxSlot}
+use Rattle.terms.specs.Limits.{maxPlaces, oldPlaces, maxSlot}
 use Rattle.layout.specs.Words.{wordCount}
-use Rattle.justrave.specs.Exported.{sizeOf, Stated, started, startedOf, posted, Slotted, slotted, Ran, ran, Figured, figured, chained, accountTold, standingTold, Led, led, Wrote, wrote, ordered}
+use Rattle.justrave.specs.Exported.{sizeOf, Stated, started, startedOf, carriedOver, posted, Slotted, slotted, Ran, ran, Figured, figured, chained, accountTold, standingTold, Led, led, Wrote, wrote, ordered}
 
 -- ---- words
 
@@ -85,6 +85,12 @@ starting bytes first words after o = record {
 abbrev pub numbering : (numbers : List ℕ) (first : ℕ) (words : List ℕ) → (after : List ℕ) (outcome : ℕ) → Row
 numbering numbers first words after o = record {
   asked = stated-as (startedOf maxPlaces numbers first words);
+  written = stated-as (record { words = after; outcome = o });
+}
+
+abbrev pub carrying : (old words : List ℕ) → (after : List ℕ) (outcome : ℕ) → Row
+carrying old words after o = record {
+  asked = stated-as (carriedOver oldPlaces maxPlaces old words);
   written = stated-as (record { words = after; outcome = o });
 }
 
@@ -181,6 +187,36 @@ numberRows =
     ∷ numbering [] (maxSlot + 1) (unused (wordCount maxPlaces)) (unused (wordCount maxPlaces)) 255
     ∷ numbering (numbersT 7 (replicate pastT 0)) 0 (unused (wordCount maxPlaces - 1)) (unused (wordCount maxPlaces - 1)) 255
     ∷ numbering (numbersT 6 (replicate pastT 0)) 0 (unused (wordCount maxPlaces + 1)) (unused (wordCount maxPlaces + 1)) 255
+    ∷ []
+
+-- T after two slots of case 3 as an old unit kept it, with this room and this n at place 1: D, N, the slot number, then n, b, j, L, c and q of
+-- each place, and zeros
+abbrev pub oldT : (room n : ℕ) → List ℕ
+oldT room n = 4 ∷ 2 ∷ 2 ∷ 1 ∷ 8 ∷ 1 ∷ 4 ∷ 2 ∷ 1 ∷ n ∷ 4 ∷ 1 ∷ 7 ∷ 6 ∷ 3 ∷ replicate (6 * (room - 2)) 0
+
+unfoldable pub carryRows : List Row
+carryRows =
+    -- into the same room, into room for one place more, and from the old limit into the new one; what the words held is gone
+    carrying (oldT 2 1) (unused 15) (wordsIn 2 1 2 2 1 6 3) 0
+    ∷ carrying (oldT 2 1) (unused 21) (wordsIn 3 1 2 2 1 6 3) 0
+    ∷ carrying (oldT oldPlaces 1) (unused (wordCount maxPlaces)) (wordsT 2 2 1 6 3) 0
+    -- a rate above D, N above the old room, and words that are all 0 are 23: the words become 0
+    ∷ carrying (oldT oldPlaces 4294967296) (unused (wordCount maxPlaces)) (replicate (wordCount maxPlaces) 0) 23
+    ∷ carrying (4 ∷ 2 ∷ 0 ∷ 1 ∷ 8 ∷ 1 ∷ 4 ∷ 8 ∷ 0 ∷ []) (unused 15) (replicate 15 0) 23
+    ∷ carrying (replicate 15 0) (unused 15) (replicate 15 0) 23
+    -- 99 words are an old unit's, with room for its 16 places, and 105 are no old unit's
+    ∷ carrying (unused 99) (unused 387) (replicate 387 0) 23
+    ∷ carrying (unused 105) (unused 387) (unused 387) 255
+    -- less room than there was, more of it than the old limit had, and lengths that are no state's are 255, ahead of 23
+    ∷ carrying (oldT 3 1) (unused 15) (unused 15) 255
+    ∷ carrying (oldT (suc oldPlaces) 1) (unused (wordCount maxPlaces)) (unused (wordCount maxPlaces)) 255
+    ∷ carrying (oldT 2 1) (unused (wordCount (suc maxPlaces))) (unused (wordCount (suc maxPlaces))) 255
+    ∷ carrying (0 ∷ oldT 2 1) (unused 21) (unused 21) 255
+    ∷ carrying (unused 14) (unused 21) (unused 21) 255
+    ∷ carrying (unused 3) (unused 21) (unused 21) 255
+    ∷ carrying [] (unused 21) (unused 21) 255
+    ∷ carrying (unused 15) (unused 16) (unused 16) 255
+    ∷ carrying (unused 15) [] [] 255
     ∷ []
 
 unfoldable pub postRows : List Row
@@ -290,7 +326,7 @@ chainRows =
     ∷ chaining (wordsIn 2 1 0 8 3 4 3) 1 (namesT 255 0) (90 ∷ []) (90 ∷ []) 255
     ∷ []
 
--- room for two places, or for three, is as good as room for 16; with room for one there is no T
+-- room for two places, or for three, is as good as room for the largest N; with room for one there is no T
 unfoldable pub roomRows : List Row
 roomRows =
     starting (bytesT 7) 0 (unused 15) (wordsIn 2 1 0 8 0 4 0) 0
@@ -339,24 +375,24 @@ orderRows =
     ∷ ordering [] [] [] [] [] 255
     ∷ []
 
--- as many words: 9 are room for one place and 99 for 16; no other of these is a state's length
+-- as many words: 9 are room for one place and 387 for the largest N; no other of these is a state's length
 unfoldable pub lengthRows : List Row
 lengthRows =
     posting (unused 3) 0 0 (unused 3) 255
     ∷ posting (unused 8) 0 0 (unused 8) 255
     ∷ posting (unused 9) 0 0 (unused 9) 23
     ∷ posting (unused 10) 0 0 (unused 10) 255
-    ∷ posting (unused 99) 0 0 (unused 99) 23
-    ∷ posting (unused 105) 0 0 (unused 105) 255
+    ∷ posting (unused 387) 0 0 (unused 387) 23
+    ∷ posting (unused 393) 0 0 (unused 393) 255
     ∷ []
 
 -- the words of a state by its room, 0 where there is no such room
 abbrev pub Sizes : Type 0
-Sizes = map (sizeOf maxPlaces) (0 ∷ 1 ∷ 2 ∷ 3 ∷ 16 ∷ 17 ∷ []) ≡ 0 ∷ 9 ∷ 15 ∷ 21 ∷ 99 ∷ 0 ∷ []
+Sizes = map (sizeOf maxPlaces) (0 ∷ 1 ∷ 2 ∷ 3 ∷ maxPlaces ∷ suc maxPlaces ∷ []) ≡ 0 ∷ 9 ∷ 15 ∷ 21 ∷ 387 ∷ 0 ∷ []
 
 -- what each row asks for is what is written
 abbrev pub Pass : List Row → Type 0
 Pass rows = map (λ r. r .asked) rows ≡ map (λ r. r .written) rows
 
 abbrev pub All-pass : Type 0
-All-pass = Pass startRows × Pass numberRows × Pass postRows × Pass slotRows × Pass runRows × Pass askedRows × Pass chainRows × Pass writeRows × Pass lookRows × Pass roomRows × Pass orderRows × Pass lengthRows × Sizes
+All-pass = Pass startRows × Pass numberRows × Pass carryRows × Pass postRows × Pass slotRows × Pass runRows × Pass askedRows × Pass chainRows × Pass writeRows × Pass lookRows × Pass roomRows × Pass orderRows × Pass lengthRows × Sizes

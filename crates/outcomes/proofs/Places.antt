@@ -4,7 +4,7 @@ use mathlib.Core.Bool.{Bool, true, false}
 use mathlib.Core.List.{List, [], _∷_}
 use mathlib.Core.Option as option
 use mathlib.Core.Option.{Option}
-use Prim.Native.Nat.{ℕ, zero, suc, _+_, _≤_, _<_}
+use Prim.Native.Nat.{ℕ, zero, suc, _+_, _-_, _≤_, _<_}
 use native.Mathlib.Omega.{arith}
 use borrow.Author.Tests.{eqb-true}
 use lib.Dec.{ltb, leb, eqb}
@@ -29,6 +29,8 @@ use Rattle.terms.specs.Answers.{Answer, accepted, granted, idle, refused, unles
 use Rattle.terms.specs.Figures.{finish, finishVerdict, finishesVerdict, admissionVerdict}
 use Rattle.terms.specs.Input.{inputVerdict}
 use Rattle.terms.specs.Start.{opening, noState, startVerdict, start, turnedDown}
+use Rattle.terms.specs.Longer.{longer}
+use Rattle.carrying.specs.Carry.{present, carryVerdict, carry}
 use Rattle.terms.specs.Asked as asked
 use Rattle.terms.specs.Chain as chains
 use Rattle.terms.proofs.Checks.{held-open, fair}
@@ -49,7 +51,7 @@ use Rattle.ordering.specs.Order.{found, orderOf}
 use Rattle.ordered_bytes.specs.OrderBytes.{listedVerdict, orderRead, orderBytes}
 use Rattle.asking.specs.Look as look
 use Rattle.outcomes.specs.Outcomes.{placeCode, refusalCode}
-use Rattle.outcomes.specs.Places.{known, ofAnOrder, ofAChain, ofAnyCall, placed, ToldOf, Told, Code-tells, Code-apart, Start-names-below, Table-start-names-below, Calls-name-below, Runs-name-below, Leads-name-below, Figures-name-below, Chains-name-below, Write-names-below, Orders-name-below, Looks-name-below, Standings-name-below}
+use Rattle.outcomes.specs.Places.{known, ofAnOrder, ofAChain, ofAnyCall, placed, ToldOf, Told, Code-tells, Code-apart, Start-names-below, Table-start-names-below, Carry-names-below, Calls-name-below, Runs-name-below, Leads-name-below, Figures-name-below, Chains-name-below, Write-names-below, Orders-name-below, Looks-name-below, Standings-name-below}
 
 -- ---- refusals by their number
 
@@ -335,6 +337,18 @@ start-names-below limit bytes first r e = by (readTable limit bytes .answer) ref
     by (granted stamp p) h f = table-start-names-below limit (readTable limit bytes .table) first r f
     by (idle stamp) h f = table-start-names-below limit (readTable limit bytes .table) first r f
     by (refused q) h f = let same : q ≡ r = cc in refuses-answer limit bytes r (h ∙ ap refused same)
+
+pub carry-names-below : Carry-names-below
+unfolding carry
+carry-names-below old new o r e = by (carryVerdict old o) (refuses-gate Is23 (refusal 23) (sound old (present o)) faultless (refl, plain new 23 refl refl) (refuses-none Is23)) e
+  where
+    Is23 : Refusal → Type 0
+    Is23 q = (q ≡ refusal 23) × Told new q
+
+    by : (v : Verdict) → Refuses Is23 v
+        → resolve {X = Result State Answer} v (record { state = longer (new - old) (present o); answer = accepted }) (turnedDown new) .answer ≡ refused r → Is23 r
+    by faultless h f = let z : _≡_ {A = ℕ} 0 1 = cc in absurd (omega arith)
+    by (fault q) h f = let same : q ≡ r = cc in rw same at (h q refl)
 
 refuses-rule : (limit : ℕ) (s : State) (c : Call) → Refuses (Told limit) (ruleVerdict s c)
 unfolding ruleVerdict

@@ -12,9 +12,10 @@ use Rattle.terms.specs.declared.refusals.Named.the-variants as named
 use Rattle.terms.specs.declared.refusals.Refusal.{Refusal}
 use Rattle.terms.specs.State.{State}
 use Rattle.terms.specs.Table.{Table}
-use Rattle.terms.specs.Refusals.{originOf}
+use Rattle.terms.specs.Refusals.{originOf, refusal}
 use Rattle.terms.specs.Answers.{refused}
 use Rattle.terms.specs.Start.{start}
+use Rattle.carrying.specs.Carry.{OldState, carry}
 use Rattle.terms.specs.Asked as asked
 use Rattle.terms.specs.Chain as chains
 use Rattle.lead_parts.specs.Lead as leads
@@ -79,6 +80,10 @@ Start-names-below =
 -- a start of a table, whatever it was given by
 abbrev pub Table-start-names-below : Type 0
 Table-start-names-below = (limit : ℕ) (t : Table) (first : ℕ) (r : Refusal) → start limit t first .answer ≡ refused r → Told limit r
+
+-- a carrying over: 23 alone
+abbrev pub Carry-names-below : Type 0
+Carry-names-below = (old new : ℕ) (o : OldState) (r : Refusal) → carry old new o .answer ≡ refused r → (r ≡ refusal 23) × Told new r
 
 -- a post or a slot
 abbrev pub Calls-name-below : Type 0

@@ -16,7 +16,7 @@ use Rattle.terms.specs.declared.answers.OrderAnswer.the-variants as orde
 use Rattle.terms.specs.Refusals.{refusalOf}
 
 pub data Answer : Type 0 where
-  -- a start, a post, a run, a reading or an ordering was carried out
+  -- a start, a carrying over, a post, a run, a reading or an ordering was carried out
   accepted : Answer
   -- a slot's stamp and the place granted
   granted : (stamp place : ℕ) → Answer

@@ -1,6 +1,6 @@
 -- The arbiter's values and checks, in document 01's order: its limits, the table and checks 1 to 6, the figures and check 7, what a call
--- that makes a table hands back, the state and test 23, start, the figures as a call, document 02's chain figure beside them, and the length of
--- an input. Refusals stands ahead of the checks because each names one.
+-- that makes a table hands back, the state and test 23, start, room for more places, the figures as a call, document 02's chain figure
+-- beside them, and the length of an input. Refusals stands ahead of the checks because each names one.
 pub mod Limits
 pub mod Refusals
 pub mod Answers
@@ -9,6 +9,7 @@ pub mod Figures
 pub mod TableResult
 pub mod State
 pub mod Start
+pub mod Longer
 pub mod Asked
 pub mod Chain
 pub mod Input

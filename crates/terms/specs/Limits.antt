@@ -8,7 +8,11 @@ maxDenominator = 65535
 -- N, the number of requestors. Definitions take `limit`, how many places there is room for; by value that is this number, and only
 -- contracts, rows and what says which words are an arbiter's put it there.
 abbrev pub maxPlaces : ℕ
-maxPlaces = 16
+maxPlaces = 64
+
+-- the largest N before request 5: states that were made under it are carried over
+abbrev pub oldPlaces : ℕ
+oldPlaces = 16
 
 -- b, a burst
 abbrev pub maxBurst : ℕ

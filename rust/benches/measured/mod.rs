@@ -10,7 +10,7 @@ use std::hint::black_box;
 use std::time::{Duration, Instant};
 
 use justrave::{Arbiter, Slots, Transfers};
-use model::{Requestor, State, Table, MAX_BACKLOG, MAX_LOG, MAX_PLACES};
+use model::{Requestor, State, Table, MAX_BACKLOG, MAX_LOG, MAX_PLACES, OLD_PLACES};
 
 /// Calls in one measurement of a short call: a clock is too coarse for one.
 const BATCH: usize = 2_000;
@@ -32,14 +32,14 @@ pub struct Case {
 impl Case {
     /// The lines above a table, in the form of the documentation's.
     pub fn print_head() {
-        println!("| call                              |  N | room | product |   model | ratio |");
-        println!("|-----------------------------------|---:|-----:|--------:|--------:|------:|");
+        println!("| call                              |  N | room |  product |    model | ratio |");
+        println!("|-----------------------------------|---:|-----:|---------:|---------:|------:|");
     }
 
     /// A line of the table: what the product took for a call and what the model did.
     pub fn print(&self, product: f64, model: f64) {
         let Case { call, places, room, .. } = self;
-        println!("| {call:<33} | {places:>2} | {room:>4} | {product:>7.1} | {model:>7.1} | {:>5.2} |", product / model);
+        println!("| {call:<33} | {places:>2} | {room:>4} | {product:>8.1} | {model:>8.1} | {:>5.2} |", product / model);
     }
 }
 
@@ -113,19 +113,23 @@ impl Following {
     }
 }
 
-/// N = 1, 4 and 16, first with room for 16 places, where the model looks at 16 too, and then with room for exactly N, where it looks at
-/// these. Then post and slot with room for exactly N once more, beside a model that is not compiled for this number. Then orders, which
-/// are lent no state and always have room for 16. Last chains of 16 places.
+/// Each N first with the largest room, where the model looks at as many places, and then with room for exactly N, where it looks at these.
+/// Then post and slot with room for exactly N once more, beside a model that is not compiled for this number. Then orders, which are lent
+/// no state and always have the largest room; chains of all places; and last old words that are carried over.
 pub fn all() -> Vec<Case> {
-    let rooms = [in_room::<16>(1), in_room::<16>(4), in_room::<16>(16), in_room::<1>(1), in_room::<4>(4)];
-    let slices = [beside_slice::<1>(), beside_slice::<4>(), beside_slice::<16>()];
-    let chains = [Following::Nobody, Following::All].map(chains::<16>);
-    rooms.into_iter().chain(slices).flatten().chain(all_orders()).chain(chains).collect()
+    let largest = [1, 4, 16, MAX_PLACES].map(in_room::<MAX_PLACES>);
+    let fitting = [in_room::<1>(1), in_room::<4>(4), in_room::<16>(16)];
+    let slices = [beside_slice::<1>(), beside_slice::<4>(), beside_slice::<16>(), beside_slice::<MAX_PLACES>()];
+    let chains =
+        [Following::Nobody, Following::All].map(|following| [chains::<16>(following), chains::<MAX_PLACES>(following)]);
+    let calls = largest.into_iter().chain(fitting).chain(slices).flatten();
+    calls.chain(all_orders()).chain(chains.into_iter().flatten()).chain([carries::<OLD_PLACES>()]).collect()
 }
 
 /// One requestor can be listed in one way only.
 fn all_orders() -> Vec<Case> {
-    let several = [4, 16].into_iter().flat_map(|places| [List::Right, List::Worst].map(|list| orders(places, list)));
+    let lists = |places| [List::Right, List::Worst].map(|list| orders(places, list));
+    let several = [4, 16, MAX_PLACES].into_iter().flat_map(lists);
     [orders(1, List::Right)].into_iter().chain(several).collect()
 }
 
@@ -168,7 +172,7 @@ fn slot_beside_slice<const N: usize>(load: Load) -> Case {
     Case { call: format!("{}; slice", slot.call), model, ..slot }
 }
 
-/// Places that share the line out evenly and whole.
+/// Places that share the line out evenly and whole: their number divides D.
 fn table<const ROOM: usize>(places: usize) -> Table<ROOM> {
     let row = Requestor { rate: 64 / places as u64, burst: 128, need: 1, within: 1 << 30 };
     let mut table = Table { denominator: 64, count: places as u64, ..Table::default() };
@@ -341,6 +345,27 @@ fn chains<const N: usize>(following: Following) -> Case {
         model: Box::new(move |many| {
             let line = model::<N>(N, Load::Idle);
             timed(many, || black_box(&line).chain(N - 1, black_box(&follows)).expect("the chain ends"))
+        }),
+    }
+}
+
+/// The old words of a full table, with every place waiting, carried over into the largest room.
+fn carries<const N: usize>() -> Case {
+    let line = model::<N>(N, Load::Waiting);
+    let rows = line.table.requestors.iter().zip(&line.accounts);
+    let places = rows.flat_map(|(row, of)| [row.rate, row.burst, row.need, row.within, of.credit, of.backlog]);
+    let old: Vec<u64> = [line.table.denominator, line.table.count, line.slot].into_iter().chain(places).collect();
+    let also = old.clone();
+    Case {
+        call: format!("carry, from room for {N}"),
+        places: N,
+        room: MAX_PLACES,
+        many: BATCH,
+        product: Box::new(move |many| {
+            timed(many, || Arbiter::<MAX_PLACES>::carry_over(black_box(&old)).expect("the state is sound"))
+        }),
+        model: Box::new(move |many| {
+            timed(many, || State::<MAX_PLACES>::carry(black_box(&also)).expect("the state is sound"))
         }),
     }
 }

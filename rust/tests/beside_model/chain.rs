@@ -5,7 +5,7 @@ use std::iter::successors;
 
 use justrave::{sys, Arbiter, SlotAnswer, Slots, Transfers};
 
-use crate::model::{Requestor, State, Table};
+use crate::model::{Requestor, State, Table, MAX_PLACES, OLD_PLACES};
 use crate::support::calls::{self, answer_of, turned_by_model, turned_by_product, Turned};
 use crate::support::chance::{rounds, Chance};
 use crate::support::names::{self, NOBODY};
@@ -106,10 +106,10 @@ fn check_sum<const ROOM: usize>(state: &State<ROOM>, links: &[usize], figure: u6
 }
 
 /// States and names of every kind; what stands past the last place, which any byte may, changes nothing.
-fn names_of_every_kind_in_room<const ROOM: usize>() {
+fn names_of_every_kind_in_room<const ROOM: usize>(many: u64) {
     let mut chance = Chance::of(&format!("names, room for {ROOM}"));
     let (mut tally, mut met) = (Tally::default(), Met::default());
-    for _ in 0..rounds(10_000) {
+    for _ in 0..rounds(many) {
         let state: State<ROOM> = invented(&mut chance);
         let (place, count) = (calls::place(&mut chance, &state), state.table.count as usize);
         let mut names = names::any(&mut chance, count, ROOM);
@@ -124,15 +124,16 @@ fn names_of_every_kind_in_room<const ROOM: usize>() {
         assert_eq!(chain(&state, place, &names, &mut tally), told, "names past place {count} were read");
     }
     tally.expect("chain", &[0, 11, 16]);
-    met.expect::<ROOM>(50);
+    met.expect::<ROOM>(many / 200);
 }
 
 #[test]
 fn names_of_every_kind() {
-    names_of_every_kind_in_room::<1>();
-    names_of_every_kind_in_room::<4>();
-    names_of_every_kind_in_room::<5>();
-    names_of_every_kind_in_room::<16>();
+    names_of_every_kind_in_room::<1>(10_000);
+    names_of_every_kind_in_room::<4>(10_000);
+    names_of_every_kind_in_room::<5>(10_000);
+    names_of_every_kind_in_room::<OLD_PLACES>(5_000);
+    names_of_every_kind_in_room::<MAX_PLACES>(3_000);
 }
 
 /// On words that break a rule every chain is refused 23, whatever is asked.
@@ -164,7 +165,8 @@ fn memory_of_every_length() {
         let place = calls::place(&mut chance, &state);
         let names = names::any(&mut chance, state.table.count as usize, 5);
         let names: Vec<u8> = names.into_iter().chain([NOBODY; 12]).take(chance.pick(&[5, 5, 5, 4, 6, 0, 17])).collect();
-        words.resize(chance.pick(&[33, 33, 33, 27, 39, 32, 34, 0, 105]), 0);
+        // the last is as many as a room for one place too many would have
+        words.resize(chance.pick(&[33, 33, 33, 27, 39, 32, 34, 0, 3 + 6 * (MAX_PLACES + 1)]), 0);
         let length = chance.pick(&[1, 1, 1, 0, 2]);
         let is_right = [(27, 4), (33, 5), (39, 6)].contains(&(words.len(), names.len())) && length == 1;
         let (outcome, answer) = by_product(&words, place, &names, length);
@@ -173,7 +175,7 @@ fn memory_of_every_length() {
         wrong += u64::from(!is_right);
         right += u64::from(outcome.is_ok());
     }
-    assert!(wrong > 1_000 && right > 1_000, "{wrong} and {right}");
+    assert!(wrong > 1_000 && right > 500, "{wrong} and {right}");
 }
 
 /// Up to four places with finish figures of 2, 8, 21 and 72 slots: chains of different links have different sums.
@@ -410,7 +412,7 @@ fn the_last_link_is_granted_within_the_figure() {
 #[test]
 fn a_figure_that_is_taken_whole() {
     let mut line = Arbiter::start(&[4, 2, 1, 8, 1, 4, 1, 4, 1, 7], Slots(0)).expect("the table is accepted");
-    let figure = line.chain(0, &[None; 16]).expect("nobody follows").0;
+    let figure = line.chain(0, &[None; MAX_PLACES]).expect("nobody follows").0;
     line.post(0, Transfers(3)).expect("there is room for three");
     line.run(&mut [0; 4]).expect("the run is accepted");
     line.post(0, Transfers(1)).expect("there is room for one");

@@ -3,7 +3,7 @@
 
 use justrave::{Arbiter, SlotAnswer, Slots, Transfers};
 
-use crate::model::{Account, State, Table, IDLE, MAX_SLOT};
+use crate::model::{Account, State, Table, IDLE, MAX_PLACES, MAX_SLOT, OLD_PLACES};
 use crate::support::chance::{rounds, Chance};
 use crate::support::{calls, tables};
 
@@ -211,6 +211,20 @@ fn floor_ceiling_and_need() {
     }
     println!("bounds that said something: {bites:?}");
     assert!(bites.floor > 10_000 && bites.ceiling > 1_000 && bites.need > 1_000);
+}
+
+/// Change request 5: the same on lines of more places than the old limit allowed.
+#[test]
+fn floor_ceiling_and_need_of_many_places() {
+    let mut chance = Chance::of("many places");
+    let mut bites = Bites::default();
+    for _ in 0..rounds(10) {
+        let count = chance.within(OLD_PLACES as u64 + 1, MAX_PLACES as u64);
+        let table = tables::tight_of(&mut chance, count);
+        bites.check(&list_of_calls(&mut chance, table, 0));
+    }
+    println!("bounds that said something: {bites:?}");
+    assert!(bites.floor > 1_000 && bites.ceiling > 100 && bites.need > 10);
 }
 
 /// Change request 2: the bounds of a table that an order made are those of its own places.

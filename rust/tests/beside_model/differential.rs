@@ -1,12 +1,12 @@
 //! Product and model on generated inputs: each call must tell the same, leave the same state, and write the same lent bytes. Every test
-//! is made with room for 1, 4, 5 and 16 places, and the model has as much room.
+//! is made with room for 1, 4, 5, 16 and 64 places, and the model has as much room.
 
 use justrave::{Arbiter, Refusal, Slots};
 
-use crate::model::{Fault, State, Table, IDLE, MAX_LOG, MAX_SLOT};
+use crate::model::{Fault, State, Table, IDLE, MAX_LOG, MAX_PLACES, OLD_PLACES};
 use crate::support::calls::{self, turned_by_model, turned_by_product, Call};
 use crate::support::chance::{rounds, Chance};
-use crate::support::states::{any_first, brimful, damage, first_slot, invented};
+use crate::support::states::{any_first, beside, brimful, damage, first_slot, invented};
 use crate::support::tables;
 use crate::support::tally::Tally;
 use crate::support::words::{state_of, words_of};
@@ -33,6 +33,11 @@ macro_rules! in_every_room {
             #[test]
             fn room_for_16() {
                 super::$test::<16>();
+            }
+
+            #[test]
+            fn room_for_64() {
+                super::$test::<64>();
             }
         })*
     };
@@ -81,6 +86,11 @@ impl<const ROOM: usize> Pair<ROOM> {
     }
 }
 
+/// How often a test goes round in this room. In a larger one than the old limit allowed a round takes longer.
+fn rounds_in<const ROOM: usize>(usual: u64) -> u64 {
+    rounds(if ROOM > OLD_PLACES { usual.div_ceil(2) } else { usual })
+}
+
 /// Chance for a test, and its tally.
 fn begin<const ROOM: usize>(test: &str) -> (Chance, Tally) {
     (Chance::of(&format!("{test}, room for {ROOM}")), Tally::default())
@@ -111,22 +121,10 @@ fn expect_of_starts<const ROOM: usize>(tally: &Tally, call: &str, numbers: &[u8]
     tally.expect(call, &possible);
 }
 
-/// What calls come to on sound states.
-fn expect_all_but_23(tally: &Tally) {
-    tally.expect("post", &[0, 11, 21]);
-    tally.expect("slot", &[0, 22]);
-    tally.expect("run", &[0, 13, 22]);
-    tally.expect("figures", &[0, 5, 11]);
-    tally.expect("chain", &[0, 11, 16]);
-    tally.expect("lead", &[0, 11, 13]);
-    tally.expect("account", &[0, 11]);
-    tally.expect("standing", &[0]);
-}
-
-/// The tables have up to 16 places, whatever the room.
+/// The tables have up to as many places as there may be, whatever the room.
 fn starts_from_bytes_of_every_kind<const ROOM: usize>() {
     let (mut chance, mut tally) = begin::<ROOM>("starts");
-    for _ in 0..rounds(40_000) {
+    for _ in 0..rounds_in::<ROOM>(40_000) {
         let bytes = tables::bytes(&mut chance);
         start::<ROOM>(&bytes, any_first(&mut chance), &mut tally);
     }
@@ -135,7 +133,7 @@ fn starts_from_bytes_of_every_kind<const ROOM: usize>() {
 
 fn starts_from_numbers_of_every_kind<const ROOM: usize>() {
     let (mut chance, mut tally) = begin::<ROOM>("starts from numbers");
-    for _ in 0..rounds(40_000) {
+    for _ in 0..rounds_in::<ROOM>(40_000) {
         let table = tables::numbers::<ROOM>(&mut chance);
         start_numbers(&table, any_first(&mut chance), &mut tally);
     }
@@ -146,7 +144,7 @@ fn starts_from_numbers_of_every_kind<const ROOM: usize>() {
 /// wrapper takes with 64 bits, also at one whose low 32 bits are the old ones.
 fn each_number_by_itself<const ROOM: usize>() {
     let (mut chance, mut tally) = begin::<ROOM>("each number");
-    for _ in 0..rounds(20) {
+    for _ in 0..rounds_in::<ROOM>(20) {
         let accepted = tables::accepted::<ROOM>(&mut chance);
         for at in 0..justrave::Table::<ROOM>::NUMBERS {
             for other in other_numbers(accepted, at) {
@@ -161,14 +159,14 @@ fn each_number_by_itself<const ROOM: usize>() {
 
 fn other_numbers<const ROOM: usize>(mut table: Table<ROOM>, at: usize) -> Vec<u64> {
     let number = *tables::number_at(&mut table, at);
-    let edges = [0, 1, 16, 17, 255, 256, 65_535, 65_536, 16_777_216, 16_777_217, 1 << 30, (1 << 30) + 1, 4_294_967_295];
-    let room = [ROOM as u64, ROOM as u64 + 1];
+    let edges = [0, 1, 255, 256, 65_535, 65_536, 16_777_216, 16_777_217, 1 << 30, (1 << 30) + 1, 4_294_967_295];
+    let rooms = [ROOM, ROOM + 1, MAX_PLACES, MAX_PLACES + 1].map(|places| places as u64);
     let of_a_need = at > 1 && at % 4 < 2;
     let wide = of_a_need.then_some(number + (1 << 32));
     [number + 1, number.saturating_sub(1), table.denominator, table.denominator + 1]
         .into_iter()
         .chain(edges)
-        .chain(room)
+        .chain(rooms)
         .chain(wide)
         .collect()
 }
@@ -200,7 +198,7 @@ fn every_short_input_and_every_neighbour_of_a_table<const ROOM: usize>() {
 fn restarts<const ROOM: usize>() {
     let (mut chance, mut tally) = begin::<ROOM>("restarts");
     let mut line = Pair::<ROOM>::of(invented(&mut chance)).product;
-    for _ in 0..rounds(5_000) {
+    for _ in 0..rounds_in::<ROOM>(5_000) {
         let first = any_first(&mut chance);
         let bytes = tables::bytes(&mut chance);
         let told = line.restart(&bytes, Slots(first));
@@ -234,31 +232,31 @@ fn hold_restart<const ROOM: usize>(
 /// From an accepted start a state never breaks a rule, whatever is called: no call comes to 23.
 fn lists_of_calls_from_a_start<const ROOM: usize>() {
     let (mut chance, mut tally) = begin::<ROOM>("lists");
-    for _ in 0..rounds(1_500) {
+    for _ in 0..rounds_in::<ROOM>(1_500) {
         let bytes = tables::accepted::<ROOM>(&mut chance).bytes();
         let mut pair = start::<ROOM>(&bytes, first_slot(&mut chance), &mut tally).expect("the table is accepted");
         let many = chance.pick(&[3, 20, 60, 200]);
         pair.make_any(&mut chance, many, &mut tally);
     }
-    expect_all_but_23(&tally);
+    tally.expect_all_but_23();
     tally.expect("write", &[0, 14]);
 }
 
 /// States that pass 23 are served by the rule, whoever made them; their tables may fail 7.
 fn states_that_no_start_made<const ROOM: usize>() {
     let (mut chance, mut tally) = begin::<ROOM>("invented states");
-    for _ in 0..rounds(4_000) {
+    for _ in 0..rounds_in::<ROOM>(4_000) {
         let mut pair = Pair::<ROOM>::of(invented(&mut chance));
         pair.make_any(&mut chance, 20, &mut tally);
     }
-    expect_all_but_23(&tally);
+    tally.expect_all_but_23();
     tally.expect("write", &[0, 7, 14]);
 }
 
 /// The credits up to some place come to their bursts, or to one more: what 23 looks at.
 fn credits_at_their_limit<const ROOM: usize>() {
     let (mut chance, mut tally) = begin::<ROOM>("credits");
-    for _ in 0..rounds(8_000) {
+    for _ in 0..rounds_in::<ROOM>(8_000) {
         Pair::<ROOM>::of(brimful(&mut chance)).make_any(&mut chance, 3, &mut tally);
     }
     tally.expect("post", &[0, 11, 21, 23]);
@@ -267,7 +265,7 @@ fn credits_at_their_limit<const ROOM: usize>() {
 
 fn damaged_words<const ROOM: usize>() {
     let (mut chance, mut tally) = begin::<ROOM>("damaged words");
-    for _ in 0..rounds(40_000) {
+    for _ in 0..rounds_in::<ROOM>(40_000) {
         let mut words = words_of::<ROOM>(&invented(&mut chance));
         damage(&mut chance, &mut words);
         Pair::<ROOM>::of(state_of(&words)).make_any(&mut chance, 3, &mut tally);
@@ -275,10 +273,10 @@ fn damaged_words<const ROOM: usize>() {
     tally.expect_all_on_a_state();
 }
 
-/// Every word of one state by itself, at edges near it and far: one whose low 32 bits are the old ones among them.
+/// Every word of one state by itself, at edges near it and far.
 fn each_word_by_itself<const ROOM: usize>() {
     let (mut chance, mut tally) = begin::<ROOM>("each word");
-    for _ in 0..rounds(20) {
+    for _ in 0..rounds_in::<ROOM>(20) {
         let sound = words_of::<ROOM>(&invented(&mut chance));
         for (at, &word) in sound.iter().enumerate() {
             for other in beside(word) {
@@ -291,15 +289,10 @@ fn each_word_by_itself<const ROOM: usize>() {
     tally.expect("slot", &[0, 22, 23]);
 }
 
-fn beside(word: u64) -> [u64; 9] {
-    let same_low_bits = word.wrapping_add(1 << 32);
-    [word.wrapping_add(1), word.wrapping_sub(1), same_low_bits, word | 1 << 63, 0, 1, MAX_SLOT, MAX_SLOT + 1, u64::MAX]
-}
-
 /// Long runs with posts in between, and the same slots one by one.
 fn long_runs<const ROOM: usize>() {
     let (mut chance, mut tally) = begin::<ROOM>("long runs");
-    for _ in 0..rounds(6) {
+    for _ in 0..rounds_in::<ROOM>(6) {
         let bytes = tables::accepted::<ROOM>(&mut chance).bytes();
         let mut pair = start::<ROOM>(&bytes, 0, &mut tally).expect("the table is accepted");
         for _ in 0..3 {

@@ -44,7 +44,7 @@ fn one_slot_below_the_figure_is_refused() {
         let finish = table.finish(place, table.requestors[place].need);
         if finish > 1 {
             table.requestors[place].within = finish - 1;
-            let refusal = Arbiter::<16>::start(&table.bytes(), Slots(0)).expect_err("the need cannot be kept");
+            let refusal = Arbiter::start(&table.bytes(), Slots(0)).expect_err("the need cannot be kept");
             assert_eq!((refusal.number, refusal.place), (7, Some(place)));
             refused += 1;
         }

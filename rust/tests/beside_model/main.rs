@@ -1,6 +1,7 @@
 //! The product beside a plain Rust model of document 01. JUSTRAVE_SEED sets the seed, which each test prints; JUSTRAVE_ROUNDS makes
 //! the tests so many times as long.
 
+mod carry;
 mod chain;
 mod demand3;
 mod differential;

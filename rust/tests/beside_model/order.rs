@@ -3,7 +3,7 @@
 
 use justrave::{sys, Arbiter, Slots};
 
-use crate::model::{self, Requestor, Table};
+use crate::model::{self, Requestor, Table, MAX_PLACES};
 use crate::support::calls::{answer_of, turned_by_model, turned_by_product, Turned};
 use crate::support::chance::{rounds, Chance};
 use crate::support::tables;
@@ -167,19 +167,24 @@ fn a_few_requestors_beside_all_their_orders() {
 fn tables_that_a_start_takes() {
     let (mut chance, mut tally) = (Chance::of("tables that a start takes"), Tally::default());
     let (mut moved, mut other, mut full) = (0, 0, 0);
-    for _ in 0..rounds(5_000) {
-        let table = if chance.one_in(2) { tables::accepted(&mut chance) } else { tables::tight_up_to(&mut chance, 16) };
+    for _ in 0..rounds(3_000) {
+        let most = chance.pick(&[6, MAX_PLACES as u64]);
+        let table = match chance.within(0, 3) {
+            0 | 1 => tables::accepted(&mut chance),
+            2 => tables::tight_up_to(&mut chance, most),
+            _ => tables::tight_of(&mut chance, most),
+        };
         assert_eq!(order(&table.bytes(), ROOM, &mut tally), Ok(table.bytes()));
         let list = tables::shuffled(&mut chance, table);
         let bytes = order(&list.bytes(), ROOM, &mut tally).expect("an order passes");
         check_ordered(&list, &bytes, &mut tally);
         moved += u64::from(bytes != list.bytes());
         other += u64::from(bytes != table.bytes());
-        full += u64::from(bytes != list.bytes() && list.count == 16);
+        full += u64::from(bytes != list.bytes() && list.count == MAX_PLACES as u64);
     }
     tally.expect("order", &[0]);
-    println!("other places than in the list: {moved}, of 16 requestors: {full}; than in the table: {other}");
-    assert!(moved > 500 && other > 500 && full > 50);
+    println!("other places than in the list: {moved}, of {MAX_PLACES} requestors: {full}; than in the table: {other}");
+    assert!(moved > 500 && other > 200 && full > 100);
 }
 
 /// 14 comes exactly where a buffer is shorter than the ordered table, which has as many bytes as the list. Any other refusal comes in any

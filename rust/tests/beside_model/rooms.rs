@@ -3,19 +3,13 @@
 
 use justrave::{Arbiter, Slots};
 
-use crate::model::{Table, MAX_PLACES};
+use crate::model::{Table, MAX_PLACES, OLD_PLACES};
 use crate::support::calls::{self, turned_by_product};
 use crate::support::chance::{rounds, Chance};
 use crate::support::states::{any_first, damage, invented};
 use crate::support::tables;
 use crate::support::tally::Tally;
-use crate::support::words::{state_of, words_of};
-
-fn with_zeros_behind<const ROOM: usize>(words: &[u64]) -> Vec<u64> {
-    let mut more = words.to_vec();
-    more.resize(Arbiter::<ROOM>::STATE_WORDS, 0);
-    more
-}
+use crate::support::words::{state_of, with_zeros_behind, words_of};
 
 /// Sound words and damaged ones, N beyond the smaller room among them.
 fn calls_in_two_rooms<const ROOM: usize, const LARGER: usize>() {
@@ -41,18 +35,19 @@ fn calls_in_two_rooms<const ROOM: usize, const LARGER: usize>() {
 #[test]
 fn zeros_put_behind_change_no_answer() {
     calls_in_two_rooms::<1, 2>();
-    calls_in_two_rooms::<1, 16>();
+    calls_in_two_rooms::<1, MAX_PLACES>();
     calls_in_two_rooms::<4, 5>();
-    calls_in_two_rooms::<4, 16>();
-    calls_in_two_rooms::<5, 16>();
-    calls_in_two_rooms::<15, 16>();
+    calls_in_two_rooms::<4, MAX_PLACES>();
+    calls_in_two_rooms::<5, OLD_PLACES>();
+    calls_in_two_rooms::<OLD_PLACES, MAX_PLACES>();
+    calls_in_two_rooms::<{ MAX_PLACES - 1 }, MAX_PLACES>();
 }
 
 /// A start from bytes and one from numbers, in a room and in the largest.
 fn starts_in_two_rooms<const ROOM: usize>() {
     let mut chance = Chance::of(&format!("starts, room for {ROOM} and for {MAX_PLACES}"));
     let (mut fitted, mut crowded) = (0, 0);
-    for _ in 0..rounds(4_000) {
+    for _ in 0..rounds(2_500) {
         let table: Table = tables::accepted(&mut chance);
         let first = Slots(any_first(&mut chance));
         let rows = tables::for_product(&table);
@@ -81,6 +76,7 @@ fn a_start_is_the_same_in_every_room_that_it_fits() {
     starts_in_two_rooms::<2>();
     starts_in_two_rooms::<4>();
     starts_in_two_rooms::<5>();
-    starts_in_two_rooms::<15>();
-    starts_in_two_rooms::<16>();
+    starts_in_two_rooms::<OLD_PLACES>();
+    starts_in_two_rooms::<{ MAX_PLACES - 1 }>();
+    starts_in_two_rooms::<MAX_PLACES>();
 }

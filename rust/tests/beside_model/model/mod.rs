@@ -1,18 +1,20 @@
 //! A second arbiter in plain Rust, written from document 01, as the requests of document 02 have changed it, and from nothing else: the product's answers are held to it, and its
-//! time is measured beside the product's. All numbers are u64. A table has room for 16 places, or for as many as are said.
+//! time is measured beside the product's. All numbers are u64. A table has room for as many places as there may be, or as are said.
 
 mod bytes;
 mod calls;
+mod carry;
 mod chain;
 mod order;
 mod table;
 
 pub use bytes::number_bytes;
 pub use calls::{Account, State};
+pub use carry::OLD_PLACES;
 pub use order::order;
 pub use table::{Requestor, Table};
 
-pub const MAX_PLACES: usize = 16;
+pub const MAX_PLACES: usize = 64;
 /// Two to the power 62.
 pub const MAX_SLOT: u64 = 4_611_686_018_427_387_904;
 pub const MAX_BACKLOG: u64 = 65_535;

@@ -4,9 +4,9 @@
 use justrave::{sys, Arbiter, Cause, Refusal, SlotAnswer, Transfers};
 
 use super::row::{Call, Row};
-use crate::model::{State, IDLE};
+use crate::model::{State, IDLE, MAX_PLACES};
 use crate::support::calls::answer_of;
-use crate::support::words::{state_of, words_of};
+use crate::support::words::{state_of, with_zeros_behind, words_of};
 
 /// What stands in lent bytes before a call.
 const FILL: u8 = 0xAA;
@@ -28,6 +28,7 @@ pub fn told(row: &Row) -> String {
         Call::Lead => lead(row),
         Call::Figures => figures(row),
         Call::Chain => chain(row),
+        Call::Carry => carry(row),
         Call::State => state(row),
         Call::AllCalls => {
             refusals(row, row.number("place"), row.number("count"), row.number("for"), row.number("length"))
@@ -256,6 +257,24 @@ fn chain(row: &Row) -> String {
             assert_eq!(answer, [u64::MAX], "a refused chain wrote its answer");
             refused(refusal)
         }
+    }
+}
+
+/// Into words that no start has written, as many as an arbiter has or as are said. What is carried is the row's state.
+fn carry(row: &Row) -> String {
+    let (old, before) = (row.old_words(), vec![u64::MAX; row.length_or("length", DIRTY.len())]);
+    let (mut lent, mut words) = (old.clone(), before.clone());
+    // SAFETY: both have their lengths behind them, and are of this function.
+    let outcome = unsafe { sys::justrave_carry(lent.as_mut_ptr(), lent.len(), words.as_mut_ptr(), words.len()) };
+    assert_eq!(lent, old, "the old words are only read");
+    match answer_of(outcome) {
+        Ok(()) => {
+            let all = with_zeros_behind::<MAX_PLACES>(&words);
+            assert_eq!(state_of(&all), row.state(), "the state that was carried over (left)");
+            format!("carried {}", accounts(&all))
+        }
+        Err(refusal) if refusal.number == 255 => refused_and(refusal, "state kept", words == before),
+        Err(refusal) => refused_and(refusal, "state zero", words.iter().all(|&word| word == 0)),
     }
 }
 

@@ -32,7 +32,7 @@ fn each_row_through_the_exported_functions() {
     for call in Call::ALL {
         assert!(counts.contains_key(call.name()), "there is no row of {}", call.name());
     }
-    assert!(all >= 623, "of the first 623 rows only {all} are there");
+    assert!(all >= 821, "of the first 821 rows only {all} are there");
 }
 
 #[test]
@@ -57,10 +57,22 @@ fn lines_that_are_no_rows() {
         "order_bytes T room 10: 04",
         "chain T place 0 names: figure 4",
         "chain T place 0 names 256: figure 4",
-        "chain T place 0 names 1 1 1 1 1 1 1 1 1 1 1 1 1 1 1 1 1: figure 4",
+        "chain T place 0 names 1x65: figure 4",
         "chain T place 0 names 255 log 0: figure 4",
         "figures T place 0 for 1 names 255: wait 0 finish 4",
         "post T place 0 count 18446744073709551616: accepted",
+        "admit T rate 1x1: faultless",
+        "admit T rate 1x0: faultless",
+        "admit T rate 1x: faultless",
+        "admit T rate x2: faultless",
+        "admit T rate 1x2x2: faultless",
+        "admit T rate 1x65: faultless",
+        "admit T rate 1x63 1 1: faultless",
+        "admit T D 4x2: faultless",
+        "admit T rate 1x18446744073709551615: faultless",
+        "carry T old: carried",
+        "carry T room 9: carried",
+        "admit T old 9: faultless",
     ] {
         assert!(Row::parse(line).is_err(), "understood: {line}");
     }

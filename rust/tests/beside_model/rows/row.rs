@@ -1,7 +1,8 @@
 //! A row: a request by field, a colon and the answer, in the grammar that stands at the top of the file of rows.
 
-use crate::model::{Account, Requestor, State, Table, MAX_PLACES};
+use crate::model::{Account, Requestor, State, Table, MAX_PLACES, OLD_PLACES};
 use crate::support::names::NOBODY;
+use crate::support::words::old_words_of;
 
 #[derive(Clone, Copy, Debug, PartialEq, Eq)]
 pub enum Call {
@@ -18,6 +19,7 @@ pub enum Call {
     Lead,
     Figures,
     Chain,
+    Carry,
     State,
     AllCalls,
     Slots,
@@ -30,7 +32,7 @@ const TABLE: &str = "T D N rate burst need within";
 const STATE: &str = "T D N rate burst need within credit backlog slot";
 
 impl Call {
-    pub const ALL: [Call; 19] = [
+    pub const ALL: [Call; 20] = [
         Call::Admit,
         Call::Start,
         Call::ReadTable,
@@ -44,6 +46,7 @@ impl Call {
         Call::Lead,
         Call::Figures,
         Call::Chain,
+        Call::Carry,
         Call::State,
         Call::AllCalls,
         Call::Slots,
@@ -72,6 +75,7 @@ impl Call {
             Call::Lead => ("lead", STATE, "place length each log"),
             Call::Figures => ("figures", STATE, "place for"),
             Call::Chain => ("chain", STATE, "place names length"),
+            Call::Carry => ("carry", STATE, "old length"),
             Call::State => ("state", STATE, ""),
             Call::AllCalls => ("all_calls", STATE, "place count for length"),
             Call::Slots => ("slots", STATE, "place count after length"),
@@ -92,7 +96,7 @@ impl Call {
 }
 
 /// The fields: how many numbers each has, at least and at most, and the largest.
-const FIELDS: [(&str, usize, usize, u64); 21] = [
+const FIELDS: [(&str, usize, usize, u64); 22] = [
     ("T", 0, 0, 0),
     ("D", 1, 1, NARROW),
     ("N", 1, 1, u64::MAX),
@@ -112,9 +116,13 @@ const FIELDS: [(&str, usize, usize, u64); 21] = [
     ("each", 1, 1, 255),
     ("log", 0, 128, 255),
     ("names", 1, MAX_PLACES, 255),
-    ("bytes", 0, 128, 255),
+    ("bytes", 0, MOST_BYTES, 255),
     ("room", 1, 1, u64::MAX),
+    ("old", 1, 1, u64::MAX),
 ];
+
+/// No table has more bytes.
+const MOST_BYTES: usize = 5 * (2 + 4 * MAX_PLACES);
 
 const NARROW: u64 = u32::MAX as u64;
 
@@ -146,11 +154,11 @@ impl Row {
         Ok(row)
     }
 
-    /// A number of the field that was named last, or the name of the next.
+    /// A number of the field that was named last, or several that are the same, or the name of the next.
     fn take(&mut self, word: &str) -> Result<(), String> {
         let last = self.named.last_mut();
-        match last.and_then(|named| number_in(named.field, word).map(|number| (named, number))) {
-            Some((named, number)) => named.put(number),
+        match last.and_then(|named| numbers_in(named.field, word).map(|numbers| (named, numbers))) {
+            Some((named, (number, times))) => (0..times).try_for_each(|_| named.put(number)),
             None => self.name(word),
         }
     }
@@ -203,10 +211,22 @@ impl Row {
     /// The names of a chain call: those that are given, and nobody's behind them, for all places that there is room for or as many as are
     /// said.
     pub fn names(&self) -> Vec<u8> {
-        let length = if self.find("length").is_some() { self.number("length") as usize } else { MAX_PLACES };
         let mut names = self.bytes("names");
-        names.resize(length, NOBODY);
+        names.resize(self.length_or("length", MAX_PLACES), NOBODY);
         names
+    }
+
+    /// How many words or names are lent: as many as are said, or the usual.
+    pub fn length_or(&self, name: &str, usual: usize) -> usize {
+        self.find(name).map_or(usual, |numbers| numbers[0] as usize)
+    }
+
+    /// The old words of the state: those that there was room for under the old limit, or as many as are said. What has no room is left
+    /// out, and what is not named is 0.
+    pub fn old_words(&self) -> Vec<u64> {
+        let mut words = old_words_of(&self.state());
+        words.resize(self.length_or("old", 3 + 6 * OLD_PLACES), 0);
+        words
     }
 
     /// A number for each place: those that are named, or those of T, and 0 behind them.
@@ -260,11 +280,23 @@ impl Named {
     }
 }
 
+/// A number and how often it stands there: once, or as often as is said behind an x, which is twice or more.
+fn numbers_in(field: usize, word: &str) -> Option<(u64, u64)> {
+    match word.split_once('x') {
+        Some((number, times)) => Some((number_in(field, number)?, decimal(times).filter(|&times| times > 1)?)),
+        None => Some((number_in(field, word)?, 1)),
+    }
+}
+
 /// Bytes are two digits in sixteens, and all other numbers are in tens.
 fn number_in(field: usize, word: &str) -> Option<u64> {
     if FIELDS[field].0 == "bytes" {
         let digits = word.len() == 2 && word.bytes().all(|c| matches!(c, b'0'..=b'9' | b'a'..=b'f'));
         return u64::from_str_radix(word, 16).ok().filter(|_| digits);
     }
+    decimal(word)
+}
+
+fn decimal(word: &str) -> Option<u64> {
     word.parse().ok().filter(|_| word.bytes().all(|c| c.is_ascii_digit()))
 }

@@ -140,7 +140,7 @@ pub fn any<const ROOM: usize>(chance: &mut Chance, state: &State<ROOM>) -> Call 
         3..=5 => Call::Slot,
         6 => Call::Run(run_length(chance, state)),
         7 => Call::Figures(place(chance, state), transfers(chance)),
-        8 => Call::Lead(place(chance, state), log(chance)),
+        8 => Call::Lead(place(chance, state), log(chance, state)),
         9 => Call::Account(place(chance, state)),
         10 => Call::Standing,
         11 => Call::Chain(place(chance, state), follows(chance, state)),
@@ -153,7 +153,7 @@ pub fn place<const ROOM: usize>(chance: &mut Chance, state: &State<ROOM>) -> usi
     let count = state.table.count.clamp(1, ROOM as u64) as usize;
     let inside = chance.index(count);
     match chance.within(0, 9) {
-        0 => chance.pick(&[count, ROOM, ROOM + 1, 15, 16, 17, 255, 256 + inside, inside + (1 << 32), usize::MAX]),
+        0 => chance.pick(&[count, ROOM, ROOM + 1, MAX_PLACES, 255, 256 + inside, inside + (1 << 32), usize::MAX]),
         _ => inside,
     }
 }
@@ -172,7 +172,8 @@ fn run_length<const ROOM: usize>(chance: &mut Chance, state: &State<ROOM>) -> us
     let left = MAX_SLOT.saturating_sub(state.slot).min(100) as usize;
     match chance.within(0, 99) {
         0 => chance.pick(&[MAX_LOG, MAX_LOG + 1]),
-        1..=9 => chance.pick(&[left, left + 1]),
+        1 => MAX_LOG + 1,
+        2..=9 => chance.pick(&[left, left + 1]),
         _ => chance.index(40),
     }
 }
@@ -192,13 +193,14 @@ fn follows<const ROOM: usize>(chance: &mut Chance, state: &State<ROOM>) -> Vec<O
     follows.to_vec()
 }
 
-/// Places and idle slots by chance; sometimes as long as a log may be, and longer.
-fn log(chance: &mut Chance) -> Vec<u8> {
+/// Places, two that are absent among them, and idle slots by chance; sometimes as long as a log may be, and longer.
+fn log<const ROOM: usize>(chance: &mut Chance, state: &State<ROOM>) -> Vec<u8> {
+    let places = state.table.count.clamp(1, ROOM as u64) as usize + 2;
     let length = match chance.within(0, 49) {
-        0 => chance.pick(&[MAX_LOG, MAX_LOG + 1]),
+        0 => chance.pick(&[MAX_LOG, MAX_LOG + 1, MAX_LOG + 1]),
         _ => chance.index(60),
     };
-    (0..length).map(|_| if chance.one_in(4) { IDLE } else { chance.index(MAX_PLACES) as u8 }).collect()
+    (0..length).map(|_| if chance.one_in(4) { IDLE } else { chance.index(places) as u8 }).collect()
 }
 
 fn buffer_length<const ROOM: usize>(chance: &mut Chance, state: &State<ROOM>) -> usize {

@@ -1,6 +1,7 @@
 //! Generated names for a chain call: for each place that there is room for, the place that it follows or nobody.
 
 use super::chance::Chance;
+use crate::model::MAX_PLACES;
 
 /// The name of a place that follows nobody.
 pub const NOBODY: u8 = 255;
@@ -74,8 +75,8 @@ fn present(chance: &mut Chance, count: usize) -> u8 {
 
 /// A place that the table does not have; often the first such.
 fn absent(chance: &mut Chance, count: usize) -> u8 {
-    let beyond = chance.within(count as u64, 254) as u8;
-    chance.pick(&[count as u8, beyond, 16, 17, 127, 128, 253, 254])
+    let (beyond, most) = (chance.within(count as u64, 254) as u8, MAX_PLACES as u8);
+    chance.pick(&[count as u8, beyond, most, most + 1, 127, 128, 253, 254])
 }
 
 /// What is not read: nobody, circles, and names of places that are there or are not.

@@ -2,14 +2,18 @@
 
 use super::chance::Chance;
 use super::tables;
-use crate::model::{Account, State, Table, MAX_BACKLOG, MAX_SLOT};
+use super::words::used_words;
+use crate::model::{Account, State, Table, MAX_BACKLOG, MAX_PLACES, MAX_SLOT, OLD_PLACES};
 
 /// A slot number, often near its limit.
 pub fn first_slot(chance: &mut Chance) -> u64 {
     match chance.within(0, 3) {
         0 => 0,
         1 => chance.within(0, MAX_SLOT),
-        2 => MAX_SLOT - chance.within(0, 40),
+        2 => {
+            let most = chance.pick(&[3, 40, 40]);
+            MAX_SLOT - chance.within(0, most)
+        }
         _ => chance.within(0, 1 << 33),
     }
 }
@@ -63,21 +67,31 @@ fn backlog(chance: &mut Chance) -> u64 {
     MAX_BACKLOG.min(chance.within(0, most) + chance.pick(&[0, 0, 0, MAX_BACKLOG - 2]))
 }
 
-/// Changes up to three words, each to a number beside the old one or at an edge of a field.
+/// Changes up to three words, each to a number beside the old one or at an edge of a field. Mostly they are such as are in use: in a large
+/// room few others are, and a change to one of these is always 23.
 pub fn damage(chance: &mut Chance, words: &mut [u64]) {
     for _ in 0..chance.pick(&[1, 1, 1, 2, 3]) {
-        let at = chance.index(words.len());
+        let among = if chance.one_in(3) { words.len() } else { used_words(words) };
+        let at = chance.index(among);
         words[at] = edge(chance, words[at]);
     }
 }
 
+/// Numbers near a word and far from it, one whose low 32 bits are the same among them.
+pub fn beside(word: u64) -> [u64; 9] {
+    let same_low_bits = word.wrapping_add(1 << 32);
+    [word.wrapping_add(1), word.wrapping_sub(1), same_low_bits, word | 1 << 63, 0, 1, MAX_SLOT, MAX_SLOT + 1, u64::MAX]
+}
+
 fn edge(chance: &mut Chance, word: u64) -> u64 {
     let beside = [word.wrapping_add(1), word.wrapping_sub(1), word.wrapping_add(1 << 32), word | 1 << 63];
-    let edges = [0, 1, 4, 5, 6, 16, 17, 255, 256, 65_535, 65_536, 16_777_216, 16_777_217, 1 << 30, (1 << 30) + 1];
+    let limits = [OLD_PLACES, OLD_PLACES + 1, MAX_PLACES, MAX_PLACES + 1].map(|places| places as u64);
+    let edges = [0, 1, 4, 5, 6, 255, 256, 65_535, 65_536, 16_777_216, 16_777_217, 1 << 30, (1 << 30) + 1];
     let large = [u64::from(u32::MAX), 1 << 32, MAX_SLOT - 1, MAX_SLOT, MAX_SLOT + 1, 1 << 63, u64::MAX];
-    match chance.within(0, 3) {
-        0 | 1 => chance.pick(&beside),
-        2 => chance.pick(&edges),
+    match chance.within(0, 19) {
+        0..=9 => chance.pick(&beside),
+        10..=13 => chance.pick(&edges),
+        14 => chance.pick(&limits),
         _ => chance.pick(&large),
     }
 }

@@ -4,7 +4,7 @@
 use justrave::{Slots, Transfers};
 
 use super::chance::Chance;
-use crate::model::{Requestor, Table};
+use crate::model::{Requestor, Table, MAX_PLACES};
 
 /// A table that is accepted.
 pub fn accepted<const ROOM: usize>(chance: &mut Chance) -> Table<ROOM> {
@@ -28,7 +28,13 @@ pub fn tight(chance: &mut Chance) -> Table {
 /// The same with up to so many places.
 pub fn tight_up_to(chance: &mut Chance, most: u64) -> Table {
     let count = chance.within(1, most);
-    let mut table = Table { denominator: chance.within(count, 24), count, ..Table::default() };
+    tight_of(chance, count)
+}
+
+/// The same with exactly so many.
+pub fn tight_of(chance: &mut Chance, count: u64) -> Table {
+    let most = 24.max(2 * count);
+    let mut table = Table { denominator: chance.within(count, most), count, ..Table::default() };
     let rates = rates(chance, table.denominator, count);
     for (row, rate) in table.requestors.iter_mut().zip(rates) {
         let burst = chance.within(table.denominator, 3 * table.denominator);
@@ -70,7 +76,7 @@ pub fn shuffled(chance: &mut Chance, mut table: Table) -> Table {
 /// Bytes of lists of every kind: near the edge, accepted in some order, with numbers out of their limits, with too much of a rate,
 /// and damaged; and those of `bytes`.
 pub fn list_bytes(chance: &mut Chance) -> Vec<u8> {
-    let most = chance.pick(&[2, 3, 6, 16]);
+    let most = chance.pick(&[2, 3, 6, MAX_PLACES as u64]);
     let list = match chance.within(0, 5) {
         0..=2 => listed(chance, most),
         3 => accepted(chance),
@@ -85,8 +91,13 @@ pub fn list_bytes(chance: &mut Chance) -> Vec<u8> {
     }
 }
 
+/// Mostly a few; else any number that there is room for, and often that of the room itself.
 fn count(chance: &mut Chance, room: usize) -> u64 {
-    let most = chance.pick(&[1, 2, 3, 4, 5, 8, room]).min(room);
+    let most = match chance.within(0, 11) {
+        0 => return room as u64,
+        1 => room,
+        _ => chance.pick(&[1, 2, 3, 4, 5, 8]).min(room),
+    };
     chance.within(1, most as u64)
 }
 
@@ -214,7 +225,8 @@ fn crowded<const ROOM: usize>(chance: &mut Chance) -> Table<ROOM> {
 fn other_count(chance: &mut Chance, table: Table) -> Vec<u8> {
     let digits = crate::model::number_bytes(table.denominator).len();
     let mut bytes = table.bytes();
-    bytes[digits] = chance.pick(&[0, 1, 2, 15, 16, 17, 127, table.count as u8 + 1]);
+    let most = MAX_PLACES as u8;
+    bytes[digits] = chance.pick(&[0, 1, 2, most - 1, most, most + 1, 127, table.count as u8 + 1]);
     bytes
 }
 
@@ -229,9 +241,10 @@ pub fn numbers<const ROOM: usize>(chance: &mut Chance) -> Table<ROOM> {
     for row in &mut table.requestors {
         row.rate = row.rate.min(4_294_967_295);
     }
-    let room = ROOM as u64;
+    let (room, beyond) = (ROOM as u64, MAX_PLACES as u64 + 1);
+    let counts = [0, 1, 2, room - 1, room, room + 1, beyond, 255, 256 + table.count, 4_294_967_295];
     match chance.within(0, 9) {
-        0 => table.count = chance.pick(&[0, 1, 2, room - 1, room, room + 1, 17, 255, 256 + table.count, 4_294_967_295]),
+        0 => table.count = chance.pick(&counts),
         1 | 2 => put_past_the_last(chance, &mut table),
         _ => {}
     }

@@ -25,6 +25,18 @@ impl Tally {
         self.expect("standing", &[0, 23]);
     }
 
+    /// The same on sound states; of a write it depends on the tables.
+    pub fn expect_all_but_23(&self) {
+        self.expect("post", &[0, 11, 21]);
+        self.expect("slot", &[0, 22]);
+        self.expect("run", &[0, 13, 22]);
+        self.expect("figures", &[0, 5, 11]);
+        self.expect("chain", &[0, 11, 16]);
+        self.expect("lead", &[0, 11, 13]);
+        self.expect("account", &[0, 11]);
+        self.expect("standing", &[0]);
+    }
+
     /// The call came to exactly these.
     pub fn expect(&self, call: &str, numbers: &[u8]) {
         let seen: Vec<u8> = self.0.get(call).into_iter().flatten().copied().collect();

@@ -5,10 +5,11 @@ use mathlib.Core.List.{_++_}
 use Prim.Native.Nat.{_-_}
 use native.Mathlib.Omega.{arith}
 use lib.ListN.{length, take, drop}
+use Rattle.lists.specs.Places.{placesFrom}
 use Rattle.lists.proofs.Overwriting.{overwrite-more, overwrite-all}
 use Rattle.terms.specs.Limits.{maxPlaces}
 use Rattle.terms.specs.Table.{noRequestor}
-use Rattle.layout.specs.Words.{rowIn, placesFrom, wordsState}
+use Rattle.layout.specs.Words.{rowIn, wordsState}
 use Rattle.layout.proofs.Items.{length-places, at-place}
 use Rattle.arbiter.proofs.ByValue.{room-full}
 use Rattle.arbiter.proofs.Shapes.{words-full}

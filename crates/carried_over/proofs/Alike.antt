@@ -1,0 +1,139 @@
+-- A state that was carried over runs on alike. Assumes nothing.
+use mathlib.Core.Path.{_≡_, refl, ap, sym, _∙_}
+use mathlib.Core.Bool.{true}
+use mathlib.Core.List.{List, [], _∷_, _++_}
+use Prim.Native.Nat.{ℕ, _+_, _-_, _≤_}
+use native.Mathlib.Omega.{arith}
+use lib.ListN.{length}
+use Rattle.lists.specs.Runs.{end, answers}
+use Rattle.lists.proofs.Runs.{keeps, end-append, answers-append}
+use Rattle.lists.proofs.Tests.{cases}
+use Rattle.terms.specs.Table.{Table}
+use Rattle.terms.specs.State.{State, sound, Shaped}
+use Rattle.terms.specs.Refusals.{refusal, gate}
+use Rattle.terms.specs.Answers.{accepted, refused}
+use Rattle.terms.specs.Longer.{longer}
+use Rattle.carrying.specs.Carry.{OldState, present, kept, carry}
+use Rattle.carrying.proofs.Kept.{present-kept, kept-many}
+use Rattle.carrying.proofs.Fits.{present-shaped}
+use Rattle.terms.proofs.Longer.{longer-shaped, few-places, same-sound, same-figures}
+use Rattle.terms.proofs.Checks.{fair}
+use Rattle.terms.proofs.Sound.{sound-table}
+use Rattle.rule.specs.Calls.{Call, called}
+use Rattle.rule.proofs.Longer.{call-shaped, call-few, same-call, same-run}
+use Rattle.guarantees.specs.Counts.{Accepted, startState, stateAfter}
+use Rattle.guarantees.proofs.Start.{entered-sound, entered-ruled}
+use Rattle.guarantees.proofs.CreditSums.{credit-sums}
+use Rattle.carried_over.specs.Alike.{Alike, Runs-on-alike, Carried-mid-run, Count-above-is-23, Sound-is-carried, Carried-from-start}
+use Rattle.carried_over.proofs.Longer.{same-chain, same-look, same-standing, same-lead, same-write}
+
+-- ---- a list of calls
+
+-- what every call keeps: the lists' lengths, and that N is a number of places
+record Kept (room : ℕ) (s : State) : Type 0 where
+  shaped : Shaped room s
+  few : s .table .count ≤ room
+
+module _ (room extra : ℕ) where
+  next-kept : (s : State) (c : Call) → Kept room s → Kept room (called room s c .state)
+  next-kept s c k = record { shaped = call-shaped room s c (k .shaped); few = call-few room s c (k .few) }
+
+  same-calls : (s : State) (calls : List Call) → Kept room s
+      → (answers (called (room + extra)) (longer extra s) calls ≡ answers (called room) s calls)
+      × (end (called (room + extra)) (longer extra s) calls ≡ longer extra (end (called room) s calls))
+      × Kept room (end (called room) s calls)
+  unfolding end answers
+  same-calls s [] k = (refl, refl, k)
+  same-calls s (c ∷ calls) k =
+      let one = same-call room extra s (k .shaped) c in
+      let rest = same-calls (called room s c .state) calls (next-kept s c k) in
+      (rw one (ap (λ heard. called room s c .answer ∷ heard) (rest .0)), rw one (rest .1), rest .2)
+
+-- with room for `new` places, and not fewer than before
+module _ (old new : ℕ) (larger : old ≤ new) where
+  abbrev extra : ℕ
+  extra = new - old
+
+  whole : old + extra ≡ new
+  whole = omega arith
+
+  all-alike : (s : State) → Kept old s → Alike old new s (longer extra s)
+  all-alike s k =
+      let v = k .shaped in
+      record {
+        behind = refl;
+        run = λ log. rw whole at (same-run old extra s v log);
+        lead = λ p log. rw whole at (same-lead old extra s v p log);
+        figures = λ p j. rw whole at (same-figures old extra s v p j);
+        chain = λ p names. rw whole at (same-chain old extra s v p names);
+        write = λ buffer. rw whole at (same-write old extra s v buffer (k .few));
+        account = λ p. rw whole at (same-look old extra s v p);
+        standing = rw whole at (same-standing old extra s v);
+      }
+
+-- ---- carried over
+
+module _ (old new : ℕ) (o : OldState) (many : length (o .places) ≡ old) (larger : old ≤ new) where
+  shaped : Shaped old (present o)
+  shaped = present-shaped old o many
+
+  carried : sound old (present o) ≡ true → carry old new o ≡ record { state = longer (new - old) (present o); answer = accepted }
+  unfolding carry gate
+  carried ok = rw ok
+
+  accepted-sound : carry old new o .answer ≡ accepted → sound old (present o) ≡ true
+  unfolding carry gate
+  accepted-sound e = cases (sound old (present o)) (λ q. q) (λ q. not-refused (rw q at e))
+    where
+      not-refused : {X : Type 0} → refused (refusal 23) ≡ accepted → X
+      not-refused f = let z : _≡_ {A = ℕ} 0 1 = cc in absurd (omega arith)
+
+  both-kept : sound old (present o) ≡ true → Kept old (present o)
+  both-kept ok = record { shaped = shaped; few = few-places old (new - old) (present o) shaped ok }
+
+pub runs-on-alike : Runs-on-alike
+runs-on-alike old new o many larger ok calls =
+    let fine = accepted-sound old new o many larger ok in
+    let same = same-calls old (new - old) (present o) calls (both-kept old new o many larger fine) in
+    let like = all-alike old new larger (end (called old) (present o) calls) (same .2) in
+    let ends = rw (whole old new larger) at (same .1) in
+    rw (carried old new o many larger fine) (rw (whole old new larger) at (same .0), rw ends like)
+
+pub carried-mid-run : Carried-mid-run
+carried-mid-run old new larger s v before after ok =
+    let last = end (called old) s before in
+    let shape = keeps (called old) (Shaped old) (call-shaped old) s before v in
+    let goes-on = runs-on-alike old new (kept last) (kept-many old last shape) larger ok after .0 in
+    answers-append (called old) s before after
+    ∙ ap (λ heard. answers (called old) s before ++ heard)
+    (ap (λ x. answers (called old) x after) (sym (present-kept old last shape)) ∙ sym goes-on)
+
+pub sound-is-carried : Sound-is-carried
+sound-is-carried old new o many larger ok =
+    let v = shaped old new o many larger in
+    let more = rw (whole old new larger) at (longer-shaped old (new - old) (present o) v) in
+    let fine = rw (whole old new larger) at (same-sound old (new - old) (present o) v ∙ ok) in
+    rw (carried old new o many larger ok) (refl, more, fine)
+
+pub count-above-is-23 : Count-above-is-23
+unfolding carry gate
+count-above-is-23 old new o over = cases (sound old (present o))
+    (λ q. absurd (omega (arith, over, fair old (present o .table) (sound-table old (present o) q) .count-most)))
+    (λ q. rw q)
+
+-- ---- from an accepted start
+
+pub carried-from-start : Carried-from-start
+carried-from-start old new larger t first a before inside more =
+    let s = stateAfter old t first before in
+    let last = stateAfter old t first (before ++ inside) in
+    let shape = entered-shaped old t first a (before ++ inside) in
+    let fine : sound old (present (kept last)) ≡ true = ap (sound old) (present-kept old last shape) ∙ credit-sums old t first a (before ++ inside) .passes-23 in
+    let ok = sound-is-carried old new (kept last) (kept-many old last shape) larger fine .0 in
+    let there = end-append (called old) (startState old t first) before inside in
+    (ok, rw (sym there) at (carried-mid-run old new larger s (entered-shaped old t first a before) inside more) ok)
+  where
+    entered-shaped : (limit : ℕ) (t : Table) (first : ℕ) → Accepted limit t first → (calls : List Call) → Shaped limit (stateAfter limit t first calls)
+    entered-shaped limit t first a calls =
+        let v = entered-sound limit t first a calls in
+        rw (entered-ruled limit t first a calls) (record { rows = v .rows; accounts = v .accounts })

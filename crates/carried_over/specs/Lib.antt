@@ -1,0 +1,2 @@
+-- What follows of an old state that was carried over.
+pub mod Alike

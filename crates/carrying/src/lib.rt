@@ -1,0 +1,4 @@
+// A state from before request 5, in words of its own, carried over into words of today.
+
+pub mod carry;
+pub mod old_words;
