@@ -209,7 +209,7 @@ fn carried_over() {
     case(0);
     carries(old_t(3));
     case(0);
-    carries(old_t(17));
+    carries(old_t(Arbiter::OLD_PLACES as u64 + 1));
 }
 
 // A place, one that is not there, and a state with a credit above its burst.

@@ -13,9 +13,9 @@ use Rattle.terms.specs.State.{State, sound, Shaped}
 use Rattle.terms.specs.Refusals.{refusal, gate}
 use Rattle.terms.specs.Answers.{accepted, refused}
 use Rattle.terms.specs.Longer.{longer}
-use Rattle.carrying.specs.Carry.{OldState, present, kept, carry}
-use Rattle.carrying.proofs.Kept.{present-kept, kept-many}
-use Rattle.carrying.proofs.Fits.{present-shaped}
+use Rattle.carrying.specs.Carry.{OldState, asState, kept, carry}
+use Rattle.carrying.proofs.Kept.{as-state-kept, kept-many}
+use Rattle.carrying.proofs.Fits.{as-state-shaped}
 use Rattle.terms.proofs.Longer.{longer-shaped, few-places, same-sound, same-figures}
 use Rattle.terms.proofs.Checks.{fair}
 use Rattle.terms.proofs.Sound.{sound-table}
@@ -74,28 +74,28 @@ module _ (old new : ℕ) (larger : old ≤ new) where
 -- ---- carried over
 
 module _ (old new : ℕ) (o : OldState) (many : length (o .places) ≡ old) (larger : old ≤ new) where
-  shaped : Shaped old (present o)
-  shaped = present-shaped old o many
+  shaped : Shaped old (asState o)
+  shaped = as-state-shaped old o many
 
-  carried : sound old (present o) ≡ true → carry old new o ≡ record { state = longer (new - old) (present o); answer = accepted }
+  carried : sound old (asState o) ≡ true → carry old new o ≡ record { state = longer (new - old) (asState o); answer = accepted }
   unfolding carry gate
   carried ok = rw ok
 
-  accepted-sound : carry old new o .answer ≡ accepted → sound old (present o) ≡ true
+  accepted-sound : carry old new o .answer ≡ accepted → sound old (asState o) ≡ true
   unfolding carry gate
-  accepted-sound e = cases (sound old (present o)) (λ q. q) (λ q. not-refused (rw q at e))
+  accepted-sound e = cases (sound old (asState o)) (λ q. q) (λ q. not-refused (rw q at e))
     where
       not-refused : {X : Type 0} → refused (refusal 23) ≡ accepted → X
       not-refused f = let z : _≡_ {A = ℕ} 0 1 = cc in absurd (omega arith)
 
-  both-kept : sound old (present o) ≡ true → Kept old (present o)
-  both-kept ok = record { shaped = shaped; few = few-places old (new - old) (present o) shaped ok }
+  both-kept : sound old (asState o) ≡ true → Kept old (asState o)
+  both-kept ok = record { shaped = shaped; few = few-places old (new - old) (asState o) shaped ok }
 
 pub runs-on-alike : Runs-on-alike
 runs-on-alike old new o many larger ok calls =
     let fine = accepted-sound old new o many larger ok in
-    let same = same-calls old (new - old) (present o) calls (both-kept old new o many larger fine) in
-    let like = all-alike old new larger (end (called old) (present o) calls) (same .2) in
+    let same = same-calls old (new - old) (asState o) calls (both-kept old new o many larger fine) in
+    let like = all-alike old new larger (end (called old) (asState o) calls) (same .2) in
     let ends = rw (whole old new larger) at (same .1) in
     rw (carried old new o many larger fine) (rw (whole old new larger) at (same .0), rw ends like)
 
@@ -106,19 +106,19 @@ carried-mid-run old new larger s v before after ok =
     let goes-on = runs-on-alike old new (kept last) (kept-many old last shape) larger ok after .0 in
     answers-append (called old) s before after
     ∙ ap (λ heard. answers (called old) s before ++ heard)
-    (ap (λ x. answers (called old) x after) (sym (present-kept old last shape)) ∙ sym goes-on)
+    (ap (λ x. answers (called old) x after) (sym (as-state-kept old last shape)) ∙ sym goes-on)
 
 pub sound-is-carried : Sound-is-carried
 sound-is-carried old new o many larger ok =
     let v = shaped old new o many larger in
-    let more = rw (whole old new larger) at (longer-shaped old (new - old) (present o) v) in
-    let fine = rw (whole old new larger) at (same-sound old (new - old) (present o) v ∙ ok) in
+    let more = rw (whole old new larger) at (longer-shaped old (new - old) (asState o) v) in
+    let fine = rw (whole old new larger) at (same-sound old (new - old) (asState o) v ∙ ok) in
     rw (carried old new o many larger ok) (refl, more, fine)
 
 pub count-above-is-23 : Count-above-is-23
 unfolding carry gate
-count-above-is-23 old new o over = cases (sound old (present o))
-    (λ q. absurd (omega (arith, over, fair old (present o .table) (sound-table old (present o) q) .count-most)))
+count-above-is-23 old new o over = cases (sound old (asState o))
+    (λ q. absurd (omega (arith, over, fair old (asState o .table) (sound-table old (asState o) q) .count-most)))
     (λ q. rw q)
 
 -- ---- from an accepted start
@@ -128,7 +128,7 @@ carried-from-start old new larger t first a before inside more =
     let s = stateAfter old t first before in
     let last = stateAfter old t first (before ++ inside) in
     let shape = entered-shaped old t first a (before ++ inside) in
-    let fine : sound old (present (kept last)) ≡ true = ap (sound old) (present-kept old last shape) ∙ credit-sums old t first a (before ++ inside) .passes-23 in
+    let fine : sound old (asState (kept last)) ≡ true = ap (sound old) (as-state-kept old last shape) ∙ credit-sums old t first a (before ++ inside) .passes-23 in
     let ok = sound-is-carried old new (kept last) (kept-many old last shape) larger fine .0 in
     let there = end-append (called old) (startState old t first) before inside in
     (ok, rw (sym there) at (carried-mid-run old new larger s (entered-shaped old t first a before) inside more) ok)

@@ -13,7 +13,7 @@ use Rattle.terms.specs.Refusals.{refusal}
 use Rattle.terms.specs.Answers.{accepted}
 use Rattle.terms.specs.Start.{turnedDown}
 use Rattle.terms.specs.Longer.{longer}
-use Rattle.carrying.specs.Carry.{OldState, present, kept, carry}
+use Rattle.carrying.specs.Carry.{OldState, asState, kept, carry}
 use Rattle.terms.specs.Asked as asked
 use Rattle.terms.specs.Chain as chains
 use Rattle.lead_parts.specs.Lead.{leadAsked}
@@ -44,8 +44,8 @@ abbrev pub Runs-on-alike : Type 0
 Runs-on-alike =
     (old new : ℕ) (o : OldState) → length (o .places) ≡ old → old ≤ new → carry old new o .answer ≡ accepted → (calls : List Call)
     → let over = carry old new o .state in
-    (answers (called new) over calls ≡ answers (called old) (present o) calls)
-    × Alike old new (end (called old) (present o) calls) (end (called new) over calls)
+    (answers (called new) over calls ≡ answers (called old) (asState o) calls)
+    × Alike old new (end (called old) (asState o) calls) (end (called new) over calls)
 
 -- carried over in the middle of a run: the answers are those of the run that was not broken off
 abbrev pub Carried-mid-run : Type 0
@@ -61,7 +61,7 @@ Count-above-is-23 = (old new : ℕ) (o : OldState) → old < o .count → carry 
 -- a sound old state is accepted, and what it is carried over to is a sound state of the new limit: what guarantees says of those holds of it
 abbrev pub Sound-is-carried : Type 0
 Sound-is-carried =
-    (old new : ℕ) (o : OldState) → length (o .places) ≡ old → old ≤ new → sound old (present o) ≡ true
+    (old new : ℕ) (o : OldState) → length (o .places) ≡ old → old ≤ new → sound old (asState o) ≡ true
     → let r = carry old new o in
     (r .answer ≡ accepted) × Shaped new (r .state) × (sound new (r .state) ≡ true)
 

@@ -9,10 +9,10 @@ use Rattle.lists.proofs.Pairs.{length-paired}
 use Rattle.terms.specs.declared.place.Requestor.{Requestor}
 use Rattle.terms.specs.declared.place.Account.{Account}
 use Rattle.terms.specs.State.{State, Shaped}
-use Rattle.carrying.specs.Carry.{rowOf, accountOf, present, placeOf, kept}
+use Rattle.carrying.specs.Carry.{oldRow, oldAccount, asState, keptPlace, kept}
 
 parts : (rs : List Requestor) (accounts : List Account) → length rs ≡ length accounts
-    → (map rowOf (paired placeOf rs accounts) ≡ rs) × (map accountOf (paired placeOf rs accounts) ≡ accounts)
+    → (map oldRow (paired keptPlace rs accounts) ≡ rs) × (map oldAccount (paired keptPlace rs accounts) ≡ accounts)
 unfolding paired
 parts [] [] h = (refl, refl)
 parts [] (a ∷ accounts) h = absurd (omega arith)
@@ -23,8 +23,8 @@ module _ (limit : ℕ) (s : State) (v : Shaped limit s) where
   same : length (s .table .requestors) ≡ length (s .accounts)
   same = v .rows ∙ sym (v .accounts)
 
-  pub present-kept : present (kept s) ≡ s
-  present-kept = let both = parts (s .table .requestors) (s .accounts) same in rw (both .0, both .1)
+  pub as-state-kept : asState (kept s) ≡ s
+  as-state-kept = let both = parts (s .table .requestors) (s .accounts) same in rw (both .0, both .1)
 
   pub kept-many : length (kept s .places) ≡ limit
-  kept-many = length-paired placeOf (s .table .requestors) (s .accounts) same ∙ v .rows
+  kept-many = length-paired keptPlace (s .table .requestors) (s .accounts) same ∙ v .rows

@@ -15,7 +15,7 @@ use Rattle.terms.specs.Table.{noRequestor, tableOf}
 use Rattle.terms.specs.State.{State, noAccount, Shaped}
 use Rattle.terms.specs.Start.{noState}
 use Rattle.terms.specs.Longer.{longer}
-use Rattle.carrying.specs.Carry.{OldState, present}
+use Rattle.carrying.specs.Carry.{OldState, asState}
 use Rattle.layout.specs.Words.{wordCount, roomOf, wordsState, stateOf, putSlotNumber, putRow, putAccount, withTable}
 use Rattle.layout.proofs.RoundTrip.{right}
 use Rattle.layout.proofs.Stores.{same-room, put-slot, put-slot-length, put-row, put-row-length, put-account, put-length}
@@ -32,9 +32,9 @@ module _ (room : ℕ) (o : OldState) where
   -- the first p places are the old state's, and the others are 0
   abbrev laid-to : (p : ℕ) → State
   laid-to p = record {
-    table = record { denominator = o .denominator; count = o .count; requestors = take p (present o .table .requestors) ++ drop p (replicate room noRequestor) };
+    table = record { denominator = o .denominator; count = o .count; requestors = take p (asState o .table .requestors) ++ drop p (replicate room noRequestor) };
     slot = record { 0 = o .slot };
-    accounts = take p (present o .accounts) ++ drop p (replicate room noAccount);
+    accounts = take p (asState o .accounts) ++ drop p (replicate room noAccount);
   }
 
   pub record Carrying (words : List ℕ) (p : ℕ) : Type 0 where
@@ -53,16 +53,16 @@ module _ (room : ℕ) (o : OldState) where
         state = put-slot headed at room (omega arith) ∙ rw (head, ← same, first, second, third);
       })
 
-  module _ (limit : ℕ) (shape : Shaped limit (present o)) (few : limit ≤ room) where
+  module _ (limit : ℕ) (shape : Shaped limit (asState o)) (few : limit ≤ room) where
     pub carrying-more : (words rowed next : List ℕ) (p : ℕ) (r : Requestor) (a : Account) → Carrying words p → p < limit
-        → r ≡ getD (present o .table .requestors) p noRequestor → a ≡ getD (present o .accounts) p noAccount → rowed ≡ putRow words p r → next ≡ putAccount rowed p a → Carrying next (p + 1)
+        → r ≡ getD (asState o .table .requestors) p noRequestor → a ≡ getD (asState o .accounts) p noAccount → rowed ≡ putRow words p r → next ≡ putAccount rowed p a → Carrying next (p + 1)
     carrying-more words rowed next p r a v h row account e f =
         let none = replicate room noRequestor in
         let nobody = replicate room noAccount in
-        let rows : set (take p (present o .table .requestors) ++ drop p none) p r ≡ take (p + 1) (present o .table .requestors) ++ drop (p + 1) none =
-        overwrite-more noRequestor (present o .table .requestors) none (take p (present o .table .requestors) ++ drop p none) p r (omega (arith, shape .rows)) (omega (arith, length-replicate room noRequestor)) refl row in
-        let accounts : set (take p (present o .accounts) ++ drop p nobody) p a ≡ take (p + 1) (present o .accounts) ++ drop (p + 1) nobody =
-        overwrite-more noAccount (present o .accounts) nobody (take p (present o .accounts) ++ drop p nobody) p a (omega (arith, shape .accounts)) (omega (arith, length-replicate room noAccount)) refl account in
+        let rows : set (take p (asState o .table .requestors) ++ drop p none) p r ≡ take (p + 1) (asState o .table .requestors) ++ drop (p + 1) none =
+        overwrite-more noRequestor (asState o .table .requestors) none (take p (asState o .table .requestors) ++ drop p none) p r (omega (arith, shape .rows)) (omega (arith, length-replicate room noRequestor)) refl row in
+        let accounts : set (take p (asState o .accounts) ++ drop p nobody) p a ≡ take (p + 1) (asState o .accounts) ++ drop (p + 1) nobody =
+        overwrite-more noAccount (asState o .accounts) nobody (take p (asState o .accounts) ++ drop p nobody) p a (omega (arith, shape .accounts)) (omega (arith, length-replicate room noAccount)) refl account in
         let long : length rowed ≡ wordCount room = rw e (put-row-length words p r ∙ v .long) in
         let with-row : wordsState room rowed ≡ _ = ap (wordsState room) e ∙ put-row words p r room (v .long) (omega arith) in
         rw f
@@ -71,10 +71,10 @@ module _ (room : ℕ) (o : OldState) where
           state = put-account rowed p a room long (omega arith) ∙ rw (with-row, v .state, rows, accounts);
         })
 
-    pub carrying-end : (words : List ℕ) (p : ℕ) → Carrying words p → p ≡ limit → stateOf words ≡ longer (room - limit) (present o)
+    pub carrying-end : (words : List ℕ) (p : ℕ) → Carrying words p → p ≡ limit → stateOf words ≡ longer (room - limit) (asState o)
     carrying-end words p v e =
         state-with-room room words (v .long) ∙ v .state
-        ∙ rw (e, take-all limit (present o .table .requestors) (omega (arith, shape .rows)), take-all limit (present o .accounts) (omega (arith, shape .accounts)), drop-replicate noRequestor limit room, drop-replicate noAccount limit room)
+        ∙ rw (e, take-all limit (asState o .table .requestors) (omega (arith, shape .rows)), take-all limit (asState o .accounts) (omega (arith, shape .accounts)), drop-replicate noRequestor limit room, drop-replicate noAccount limit room)
 
 -- what the loop finds, once the head is laid
 pub begins : (old-most most : ℕ) (old entry headed words : List ℕ) (d n at : ℕ) → Fit old-most most old entry → length headed ≡ length entry → length words ≡ length headed
@@ -89,7 +89,7 @@ begins old-most most old entry headed words d n at f headed-long words-long firs
 -- and what it leaves
 pub ends : (old entry begun words : List ℕ) (p : ℕ) → length begun ≡ length entry
     → (p ≤ oldRoomOf old) × (oldRoomOf old ≤ roomOf begun) × Carrying (roomOf begun) (oldStateOf old) words p → oldRoomOf old ≤ p
-    → stateOf words ≡ longer (roomOf entry - oldRoomOf old) (present (oldStateOf old))
+    → stateOf words ≡ longer (roomOf entry - oldRoomOf old) (asState (oldStateOf old))
 ends old entry begun words p long (most, few, v) all =
     let room : roomOf begun ≡ roomOf entry = same-room entry begun long in
     carrying-end (roomOf begun) (oldStateOf old) (oldRoomOf old) (old-shaped (oldRoomOf old) old) few words p v (omega arith) ∙ rw room

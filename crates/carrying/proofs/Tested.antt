@@ -12,7 +12,7 @@ use Rattle.terms.specs.Refusals.{faultless, refusal, gate, resolve}
 use Rattle.terms.specs.Answers.{Answer, accepted}
 use Rattle.terms.specs.Start.{turnedDown}
 use Rattle.terms.specs.Longer.{longer}
-use Rattle.carrying.specs.Carry.{present, carry}
+use Rattle.carrying.specs.Carry.{asState, carry}
 use Rattle.terms.proofs.Longer.{sound-within}
 use Rattle.layout.specs.Words.{roomOf, stateOf}
 use Rattle.layout.proofs.Stores.{same-room}
@@ -20,12 +20,12 @@ use Rattle.carrying.specs.OldWords.{oldRoomOf, oldStateOf}
 use Rattle.carrying.proofs.Fits.{Fit, old-shaped}
 
 module _ (old-most most : ℕ) (old words laid : List ℕ) (f : Fit old-most most old words) (long : length laid ≡ length words)
-    (e : stateOf laid ≡ longer (roomOf words - oldRoomOf old) (present (oldStateOf old))) where
+    (e : stateOf laid ≡ longer (roomOf words - oldRoomOf old) (asState (oldStateOf old))) where
   abbrev limit : ℕ
   limit = oldRoomOf old
 
   abbrev before : State
-  before = present (oldStateOf old)
+  before = asState (oldStateOf old)
 
   pub tested : (room : ℕ) (b : Bool) → room ≡ limit → b ≡ (leb (stateOf laid .table .count) room && sound (roomOf laid) (stateOf laid)) → b ≡ sound limit before
   tested room b r t =

@@ -33,39 +33,39 @@ pub record OldState : Type 0 where
 
 -- ---- the same as a state of today, with the room that it had
 
-abbrev pub rowOf : OldPlace → Requestor
-rowOf x = record { rate = x .rate; burst = x .burst; need = record { 0 = x .need }; within = record { 0 = x .within } }
+abbrev pub oldRow : OldPlace → Requestor
+oldRow x = record { rate = x .rate; burst = x .burst; need = record { 0 = x .need }; within = record { 0 = x .within } }
 
-abbrev pub accountOf : OldPlace → Account
-accountOf x = record { credit = x .credit; backlog = record { 0 = x .backlog } }
+abbrev pub oldAccount : OldPlace → Account
+oldAccount x = record { credit = x .credit; backlog = record { 0 = x .backlog } }
 
-abbrev pub present : OldState → State
-present o = record {
-  table = record { denominator = o .denominator; count = o .count; requestors = map rowOf (o .places) };
+abbrev pub asState : OldState → State
+asState o = record {
+  table = record { denominator = o .denominator; count = o .count; requestors = map oldRow (o .places) };
   slot = record { 0 = o .slot };
-  accounts = map accountOf (o .places);
+  accounts = map oldAccount (o .places);
 }
 
 -- what an old unit had of a state
-abbrev pub placeOf : Requestor → Account → OldPlace
-placeOf r a = record { rate = r .rate; burst = r .burst; need = r .need .0; within = r .within .0; credit = credit a; backlog = backlog a }
+abbrev pub keptPlace : Requestor → Account → OldPlace
+keptPlace r a = record { rate = r .rate; burst = r .burst; need = r .need .0; within = r .within .0; credit = credit a; backlog = backlog a }
 
 abbrev pub kept : State → OldState
 kept s = record {
   denominator = s .table .denominator;
   count = s .table .count;
   slot = s .slot .0;
-  places = paired placeOf (s .table .requestors) (s .accounts);
+  places = paired keptPlace (s .table .requestors) (s .accounts);
 }
 
 -- ---- carried over
 
 abbrev pub carryVerdict : (old : ℕ) → OldState → Verdict
-carryVerdict old o = gate (refusal 23) (sound old (present o)) faultless
+carryVerdict old o = gate (refusal 23) (sound old (asState o)) faultless
 
 -- from the old limit to the new one: the same table, slot number and accounts, and zeros past the last place
 unfoldable pub carry : (old new : ℕ) → OldState → Result State Answer
 carry old new o =
     resolve (carryVerdict old o)
-    (record { state = longer (new - old) (present o); answer = accepted })
+    (record { state = longer (new - old) (asState o); answer = accepted })
     (turnedDown new)

@@ -27,7 +27,7 @@ ghost use Rattle.terms.specs.Limits.{maxPlaces, oldPlaces};
 ghost use Rattle.terms.specs.Answers.{startAnswerOf};
 ghost use Rattle.terms.specs.State.{sound};
 ghost use Rattle.terms.specs.Longer.{longer};
-ghost use Rattle.carrying.specs.Carry.{present, carry};
+ghost use Rattle.carrying.specs.Carry.{asState, carry};
 ghost use Rattle.layout.specs.Words.{roomOf, rightLength, stateOf};
 ghost use Rattle.carrying.specs.OldWords.{oldRoomOf, oldStateOf};
 ghost use Rattle.carrying.specs.Fits.{fitsInto};
@@ -48,7 +48,7 @@ pub fn lengths_fit(old: &[u64], words: &[u64]) -> bool
 // Whatever the old words hold: test 23 comes later.
 fn lay_old(old: &[u64], words: &mut [u64])
     requires { ⌜ fitsInto oldPlaces maxPlaces (now old) (now words) ≡ true ⌝ }
-    ensures { λ _. ⌜ stateOf (now (words .exit)) ≡ longer (roomOf (now (words .entry)) - oldRoomOf (now (old .entry))) (present (oldStateOf (now (old .entry)))) ⌝ }
+    ensures { λ _. ⌜ stateOf (now (words .exit)) ≡ longer (roomOf (now (words .entry)) - oldRoomOf (now (old .entry))) (asState (oldStateOf (now (old .entry)))) ⌝ }
 {
     let room = old_room_of(old);
     let d = old_denominator(old);

@@ -10,7 +10,7 @@ ghost use mathlib.Core.Path.{_≡_};
 ghost use Prim.Native.Nat.{_+_, _≤_};
 ghost use lib.ListN.{length, getD};
 ghost use Rattle.terms.specs.Limits.{oldPlaces};
-ghost use Rattle.carrying.specs.Carry.{rowOf, accountOf};
+ghost use Rattle.carrying.specs.Carry.{oldRow, oldAccount};
 ghost use Rattle.carrying.specs.OldWords.{oldWordCount, oldRoomOf, oldRightLength, oldPlaceIn};
 
 pub fn old_room_of(words: &[u64]) -> usize
@@ -60,7 +60,7 @@ pub fn old_slot_number(words: &[u64]) -> Slots
 
 pub fn old_row(words: &[u64], p: usize) -> Requestor
     requires { ⌜ oldWordCount (p + 1) ≤ length (now words) ⌝ }
-    ensures { λ r. ⌜ r ≡ rowOf (oldPlaceIn (now (words .entry)) p) ⌝ }
+    ensures { λ r. ⌜ r ≡ oldRow (oldPlaceIn (now (words .entry)) p) ⌝ }
 {
     let at = OldArbiter::HEAD + OldArbiter::PLACE * p;
     Requestor {
@@ -73,7 +73,7 @@ pub fn old_row(words: &[u64], p: usize) -> Requestor
 
 pub fn old_account(words: &[u64], p: usize) -> Account
     requires { ⌜ oldWordCount (p + 1) ≤ length (now words) ⌝ }
-    ensures { λ a. ⌜ a ≡ accountOf (oldPlaceIn (now (words .entry)) p) ⌝ }
+    ensures { λ a. ⌜ a ≡ oldAccount (oldPlaceIn (now (words .entry)) p) ⌝ }
 {
     let at = OldArbiter::HEAD + OldArbiter::PLACE * p;
     Account {

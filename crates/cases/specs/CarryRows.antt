@@ -40,12 +40,12 @@ wideTableRows =
 abbrev pub stood : (n b j L c q : ℕ) → OldPlace
 stood n b j L c q = record { rate = n; burst = b; need = j; within = L; credit = c; backlog = q }
 
-abbrev pub empty : OldPlace
-empty = stood 0 0 0 0 0 0
+abbrev pub noPlace : OldPlace
+noPlace = stood 0 0 0 0 0 0
 
 -- with room for the old limit: D, N, the slot number, places from place 0 on, and zeros
 unfoldable pub oldOf : (d n slot : ℕ) → List OldPlace → OldState
-oldOf d n at places = record { denominator = d; count = n; slot = at; places = writtenOver places (replicate oldPlaces empty) }
+oldOf d n at places = record { denominator = d; count = n; slot = at; places = writtenOver places (replicate oldPlaces noPlace) }
 
 -- T with this D, N and slot number, and the c and q of both places
 unfoldable pub oldT : (d n slot c q c' q' : ℕ) → OldState
@@ -60,7 +60,7 @@ oldPast places = oldOf 4 2 0 (stood 1 8 1 4 8 0 ∷ stood 1 4 1 7 4 0 ∷ places
 
 -- up to the last place of the old limit, and this one there
 unfoldable pub atLast : OldPlace → List OldPlace
-atLast x = replicate (oldPlaces - 3) empty ++ x ∷ []
+atLast x = replicate (oldPlaces - 3) noPlace ++ x ∷ []
 
 -- all places of the old limit, whatever N says
 unfoldable pub oldFull : (n : ℕ) → OldState

@@ -17,7 +17,7 @@ use Rattle.terms.specs.Answers.{Answer}
 use Rattle.terms.specs.Figures.{burstsAbove, rateLeft, wait, finish, admissionVerdict}
 use Rattle.terms.specs.Input.{inputVerdict}
 use Rattle.terms.specs.Start.{start}
-use Rattle.carrying.specs.Carry.{OldState, present, carry}
+use Rattle.carrying.specs.Carry.{OldState, asState, carry}
 use Rattle.terms.specs.Asked.{FiguresAnswer}
 use Rattle.terms.specs.Asked as asked
 use Rattle.terms.specs.Chain.{ChainAnswer}
@@ -193,7 +193,7 @@ reply (admission t) = found (admissionVerdict maxPlaces t)
 reply (admissionUnder limit t) = found (admissionVerdict limit t)
 reply (carrying o) = let r = carry oldPlaces maxPlaces o in started-as (r .answer) (r .state)
 reply (besideOld o slots) =
-    let before = run oldPlaces (present o) (replicate slots 0) in
+    let before = run oldPlaces (asState o) (replicate slots 0) in
     let over = run maxPlaces (carry oldPlaces maxPlaces o .state) (replicate slots 0) in
     ran-both (before .log) (standsAt (o .count) (before .state)) (over .log) (standsAt (o .count) (over .state))
 reply (starting t first) = let begun = start maxPlaces t first in started-as (begun .answer) (begun .state)

@@ -1,13 +1,37 @@
--- What a function gives at each place, and items of one width that stand in words one behind the other: written and read back, and read and
--- written back. The places of a state and the rows of a table given as numbers are two cases. Assumes nothing.
+-- How many items of one width stand behind a head; what a function gives at each place; and items that stand in words one behind the other:
+-- written and read back, and read and written back. The places of a state, of an old one, and the rows of a table given as numbers are
+-- cases. Assumes nothing.
 use mathlib.Core.Path.{_≡_, refl, ap, sym, _∙_}
 use mathlib.Core.List.{List, [], _∷_, _++_, map, append-assoc}
-use Prim.Native.Nat.{ℕ, zero, suc, _+_, _≤_, _<_}
+use mathlib.Core.Bool.{true, _&&_}
+use Prim.Native.Nat.{ℕ, zero, suc, _+_, _-_, _*_, _/_, _≤_, _<_}
+use native.Mathlib.Nat.{mul-div-cancel-left}
 use native.Mathlib.Omega.{arith}
+use borrow.Author.Tests.{eqb-true, eq-eqb}
+use lib.Dec.{eqb}
 use lib.ListN.{length, getD, drop, set, length-append}
+use Rattle.lists.specs.Choices.{inRange}
 use Rattle.lists.specs.Sums.{joined}
 use Rattle.lists.specs.Pairs.{paired}
 use Rattle.lists.specs.Places.{placesFrom}
+use Rattle.lists.proofs.Tests.{and-true, true-and, in-range-true, in-range}
+
+-- ---- how many there are
+
+pub rooms-behind : (head width room n : ℕ) → 0 < width → n ≡ head + width * room → (n - head) / width ≡ room
+rooms-behind head width room n some e =
+    let left : n - head ≡ width * room = omega arith in
+    ap (λ x. x / width) left ∙ mul-div-cancel-left room some
+
+-- what the test of a size says, and the other way round
+pub size-open : (n count room most : ℕ) → (eqb n count && inRange 1 most room) ≡ true → (n ≡ count) × (1 ≤ room) × (room ≤ most)
+size-open n count room most e =
+    let a = and-true (eqb n count) _ e in
+    let b = in-range-true 1 most room (a .1) in
+    (eqb-true n count (a .0), b .0, b .1)
+
+pub size-shut : (n count room most : ℕ) → n ≡ count → 1 ≤ room → room ≤ most → (eqb n count && inRange 1 most room) ≡ true
+size-shut n count room most same some few = true-and (eqb n count) _ (eq-eqb n count same) (in-range some few)
 
 -- ---- what a function gives at each place
 

@@ -2,11 +2,8 @@
 use mathlib.Core.Path.{_≡_, refl, ap, sym, _∙_}
 use mathlib.Core.Bool.{true}
 use mathlib.Core.List.{List, [], _∷_, _++_, map, append-nil}
-use Prim.Native.Nat.{ℕ, suc, _+_, _-_, _*_, _/_, _≤_, _<_}
-use native.Mathlib.Nat.{mul-div-cancel-left}
+use Prim.Native.Nat.{ℕ, suc, _+_, _*_, _≤_, _<_}
 use native.Mathlib.Omega.{arith}
-use borrow.Author.Tests.{eqb-true, eq-eqb}
-use lib.Dec.{eqb}
 use lib.ListN.{length, getD, drop, drop-of-length-le}
 use lib.Seq.{drop-cons, getD-append-seam, getD-append-add}
 use Rattle.lists.specs.Sums.{joined}
@@ -14,14 +11,13 @@ use Rattle.lists.specs.Pairs.{paired}
 use Rattle.lists.specs.Places.{placesFrom}
 use Rattle.lists.proofs.Sums.{length-joined-same}
 use Rattle.lists.proofs.Pairs.{length-paired}
-use Rattle.lists.proofs.Tests.{and-true, true-and, in-range, in-range-true}
 use Rattle.terms.specs.declared.place.Requestor.{Requestor}
 use Rattle.terms.specs.declared.place.Account.{Account}
 use Rattle.terms.specs.State.{State, noAccount, Shaped}
 use Rattle.terms.specs.Table.{noRequestor}
 use Rattle.layout.specs.Words.{placeStart, wordCount, roomOf, rightLength, headWords, Place, place, placeWords, stateWords, rowFrom, accountFrom, rowIn, accountIn, wordsState}
 use Rattle.layout.specs.RoundTrip.{Words-read-back, Words-shaped, State-written-back}
-use Rattle.layout.proofs.Items.{length-places, at-place, map-places, paired-places, Items, written-read, read-written}
+use Rattle.layout.proofs.Items.{rooms-behind, size-open, size-shut, length-places, at-place, map-places, paired-places, Items, written-read, read-written}
 
 -- ---- a place's six words
 
@@ -74,10 +70,7 @@ length-state room s v =
 
 pub room-of : (room : ℕ) (words : List ℕ) → length words ≡ wordCount room → roomOf words ≡ room
 unfolding roomOf
-room-of room words long =
-    let some : 0 < 6 = omega arith in
-    let left : length words - 3 ≡ 6 * room = omega arith in
-    ap (λ x. x / 6) left ∙ mul-div-cancel-left room some
+room-of room words long = rooms-behind 3 6 room (length words) (omega arith) long
 
 -- what a right length says, and the other way round
 pub record Right (most : ℕ) (words : List ℕ) : Type 0 where
@@ -88,14 +81,12 @@ pub record Right (most : ℕ) (words : List ℕ) : Type 0 where
 pub right : (most : ℕ) (words : List ℕ) → rightLength most words ≡ true → Right most words
 unfolding rightLength
 right most words e =
-    let a = and-true (eqb (length words) (wordCount (roomOf words))) _ e in
-    let b = in-range-true 1 most (roomOf words) (a .1) in
-    record { long = eqb-true (length words) (wordCount (roomOf words)) (a .0); some = b .0; room-most = b .1 }
+    let (long, some, few) = size-open (length words) (wordCount (roomOf words)) (roomOf words) most e in
+    record { long = long; some = some; room-most = few }
 
 pub right-of : (most room : ℕ) (words : List ℕ) → length words ≡ wordCount room → 1 ≤ room → room ≤ most → rightLength most words ≡ true
 unfolding rightLength
-right-of most room words long some few =
-    rw (room-of room words long) (true-and (eqb (length words) (wordCount room)) _ (eq-eqb (length words) (wordCount room) long) (in-range some few))
+right-of most room words long some few = rw (room-of room words long) (size-shut (length words) (wordCount room) room most long some few)
 
 -- ---- words, read and written
 

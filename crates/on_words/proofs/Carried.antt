@@ -12,7 +12,7 @@ use Rattle.terms.specs.Refusals.{Verdict, faultless, fault, gate, resolve}
 use Rattle.terms.specs.Answers.{Answer, accepted, refused}
 use Rattle.terms.specs.Start.{noState, turnedDown}
 use Rattle.terms.specs.Longer.{longer}
-use Rattle.carrying.specs.Carry.{OldState, rowOf, accountOf, present, carryVerdict, carry}
+use Rattle.carrying.specs.Carry.{OldState, oldRow, oldAccount, asState, carryVerdict, carry}
 use Rattle.layout.specs.Words.{roomOf, rightLength, stateWords, wordsState, stateOf}
 use Rattle.layout.proofs.Items.{map-places}
 use Rattle.layout.proofs.RoundTrip.{right, right-of, words-shaped, state-written-back}
@@ -34,7 +34,7 @@ unfolding carry
 carry-ends old new o = by (carryVerdict old o) (λ r e. known-any (carry-names-below old new o r e .1))
   where
     made : Verdict → Result State Answer
-    made v = resolve v (record { state = longer (new - old) (present o); answer = accepted }) (turnedDown new)
+    made v = resolve v (record { state = longer (new - old) (asState o); answer = accepted }) (turnedDown new)
 
     by : (v : Verdict) → ((r : Refusal) → made v .answer ≡ refused r → ToldOf ofAnyCall new r) → Ends new (answerCode (made v .answer)) (made v .state ≡ noState new)
     by faultless t = went refl
@@ -56,15 +56,15 @@ carry-broken old-most most old words all broken = rw (all, broken)
 -- ---- accepted
 
 -- an old state's words are read as today's
-same-state : (old : List ℕ) → present (oldStateOf old) ≡ stateOf old
+same-state : (old : List ℕ) → asState (oldStateOf old) ≡ stateOf old
 unfolding oldWordsState wordsState oldRoomOf roomOf
-same-state old = rw (map-places (oldPlaceIn old) rowOf 0 (roomOf old), map-places (oldPlaceIn old) accountOf 0 (roomOf old))
+same-state old = rw (map-places (oldPlaceIn old) oldRow 0 (roomOf old), map-places (oldPlaceIn old) oldAccount 0 (roomOf old))
 
 same-rooms : (old : List ℕ) → oldRoomOf old ≡ roomOf old
 unfolding oldRoomOf roomOf
 same-rooms old = refl
 
-module _ (old-most most : ℕ) (old words : List ℕ) (all : fitsInto old-most most old words ≡ true) (ok : sound (oldRoomOf old) (present (oldStateOf old)) ≡ true) where
+module _ (old-most most : ℕ) (old words : List ℕ) (all : fitsInto old-most most old words ≡ true) (ok : sound (oldRoomOf old) (asState (oldStateOf old)) ≡ true) where
   abbrev extra : ℕ
   extra = roomOf words - oldRoomOf old
 
@@ -78,7 +78,7 @@ module _ (old-most most : ℕ) (old words : List ℕ) (all : fitsInto old-most m
   room-there : roomOf old + extra ≤ most
   room-there = omega (arith, same-rooms old, fits .enough, right most words (fits .right) .room-most)
 
-  made : carry (oldRoomOf old) (roomOf words) (oldStateOf old) ≡ record { state = longer extra (present (oldStateOf old)); answer = accepted }
+  made : carry (oldRoomOf old) (roomOf words) (oldStateOf old) ≡ record { state = longer extra (asState (oldStateOf old)); answer = accepted }
   unfolding carry gate
   made = rw ok
 
@@ -103,8 +103,8 @@ module _ (old-most most : ℕ) (old words : List ℕ) (e : carriedOver old-most 
       not-255 : wrongLength ≡ 0 → ⊥
       not-255 f = omega arith
 
-  held : sound (oldRoomOf old) (present (oldStateOf old)) ≡ true
-  held = cases (sound (oldRoomOf old) (present (oldStateOf old))) (λ q. q) (λ q. absurd (not-23 (sym (carry-broken old-most most old words fitted q) ∙ e)))
+  held : sound (oldRoomOf old) (asState (oldStateOf old)) ≡ true
+  held = cases (sound (oldRoomOf old) (asState (oldStateOf old))) (λ q. q) (λ q. absurd (not-23 (sym (carry-broken old-most most old words fitted q) ∙ e)))
     where
       not-23 : _≡_ {A = ℕ} 23 0 → ⊥
       not-23 f = omega arith

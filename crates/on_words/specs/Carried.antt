@@ -6,7 +6,7 @@ use mathlib.Core.List.{List}
 use Prim.Native.Nat.{ℕ, _-_}
 use Rattle.lists.specs.Runs.{end, answers}
 use Rattle.terms.specs.State.{sound}
-use Rattle.carrying.specs.Carry.{present}
+use Rattle.carrying.specs.Carry.{asState}
 use Rattle.rule.specs.Calls.{Call}
 use Rattle.layout.specs.Words.{roomOf}
 use Rattle.carrying.specs.OldWords.{oldRoomOf, oldStateOf}
@@ -21,7 +21,7 @@ Carry-lengths = (old-most most : ℕ) (old words : List ℕ) → Exactly-255 (fi
 -- where the lengths fit, an old state that breaks a rule is 23
 abbrev pub Carry-broken : Type 0
 Carry-broken =
-    (old-most most : ℕ) (old words : List ℕ) → fitsInto old-most most old words ≡ true → sound (oldRoomOf old) (present (oldStateOf old)) ≡ false
+    (old-most most : ℕ) (old words : List ℕ) → fitsInto old-most most old words ≡ true → sound (oldRoomOf old) (asState (oldStateOf old)) ≡ false
     → carriedOver old-most most old words .outcome ≡ 23
 
 -- refused, the words are cleared; 255 leaves them as they were
@@ -32,7 +32,7 @@ Carry-refused = (old-most most : ℕ) (old words : List ℕ) → Clears words (c
 -- comes to what the old unit's on its own would have come to
 abbrev pub Carry-accepted : Type 0
 Carry-accepted =
-    (old-most most : ℕ) (old words : List ℕ) → fitsInto old-most most old words ≡ true → sound (oldRoomOf old) (present (oldStateOf old)) ≡ true
+    (old-most most : ℕ) (old words : List ℕ) → fitsInto old-most most old words ≡ true → sound (oldRoomOf old) (asState (oldStateOf old)) ≡ true
     → let r = carriedOver old-most most old words in
     let extra = roomOf words - oldRoomOf old in
     (r .outcome ≡ 0) × (r .words ≡ more extra old) × Alike old-most most extra old

@@ -30,7 +30,7 @@ use Rattle.terms.specs.Figures.{finish, finishVerdict, finishesVerdict, admissi
 use Rattle.terms.specs.Input.{inputVerdict}
 use Rattle.terms.specs.Start.{opening, noState, startVerdict, start, turnedDown}
 use Rattle.terms.specs.Longer.{longer}
-use Rattle.carrying.specs.Carry.{present, carryVerdict, carry}
+use Rattle.carrying.specs.Carry.{asState, carryVerdict, carry}
 use Rattle.terms.specs.Asked as asked
 use Rattle.terms.specs.Chain as chains
 use Rattle.terms.proofs.Checks.{held-open, fair}
@@ -340,13 +340,13 @@ start-names-below limit bytes first r e = by (readTable limit bytes .answer) ref
 
 pub carry-names-below : Carry-names-below
 unfolding carry
-carry-names-below old new o r e = by (carryVerdict old o) (refuses-gate Is23 (refusal 23) (sound old (present o)) faultless (refl, plain new 23 refl refl) (refuses-none Is23)) e
+carry-names-below old new o r e = by (carryVerdict old o) (refuses-gate Is23 (refusal 23) (sound old (asState o)) faultless (refl, plain new 23 refl refl) (refuses-none Is23)) e
   where
     Is23 : Refusal → Type 0
     Is23 q = (q ≡ refusal 23) × Told new q
 
     by : (v : Verdict) → Refuses Is23 v
-        → resolve {X = Result State Answer} v (record { state = longer (new - old) (present o); answer = accepted }) (turnedDown new) .answer ≡ refused r → Is23 r
+        → resolve {X = Result State Answer} v (record { state = longer (new - old) (asState o); answer = accepted }) (turnedDown new) .answer ≡ refused r → Is23 r
     by faultless h f = let z : _≡_ {A = ℕ} 0 1 = cc in absurd (omega arith)
     by (fault q) h f = let same : q ≡ r = cc in rw same at (h q refl)
 
