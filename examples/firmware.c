@@ -236,7 +236,7 @@ static void show_update(void)
 static void show_refusals(void)
 {
     uint64_t other[STATE_WORDS], broken[JUSTRAVE_OLD_WORDS(PLACES)];
-    uint32_t hasty[TABLE_NUMBERS];
+    uint32_t hasty[TABLE_NUMBERS], greedy[TABLE_NUMBERS];
     uint8_t round[PLACES];
     uint64_t figure[JUSTRAVE_CHAIN_ANSWER];
 
@@ -245,6 +245,9 @@ static void show_refusals(void)
     memcpy(hasty, table, sizeof hasty);
     hasty[5] = 9; /* the pump's two transfers within 9 slots: its finish figure is 10 */
     refused("start", justrave_start_numbers(hasty, TABLE_NUMBERS, 0, other, STATE_WORDS));
+    memcpy(greedy, table, sizeof greedy);
+    greedy[4] = 10; /* ten transfers of the pump, whose burst holds two */
+    refused("start", justrave_start_numbers(greedy, TABLE_NUMBERS, 0, other, STATE_WORDS));
     memcpy(round, follows, sizeof round);
     round[CHLORINE_PROBE] = SERVICE_LOG; /* probe, log and handset would wait for one another for ever */
     refused("chain", justrave_chain(state, STATE_WORDS, HANDSET, round, PLACES, figure, JUSTRAVE_CHAIN_ANSWER));

@@ -50,7 +50,7 @@
  * The stack. The library follows the System V calling convention of x86-64. It finds the stack aligned to 16 bytes, as every caller
  * leaves it, and keeps it so; and it uses the red zone, the 128 bytes below the stack pointer. An interrupt handler that runs on the same
  * stack must skip these 128 bytes before it writes, as the handlers of a process's signals do. How many bytes of stack an accepted
- * call takes, its return address and the red zone included, measured with the largest N by tests/stack: an order 4,552, a write 1,288, a
+ * call takes, its return address and the red zone included, measured with the largest N by tests/stack: an order 4,552, a write 1,320, a
  * start from bytes 704, one from numbers 608, a carrying over 160, a chain 144, a run and a lead 128, a slot and figures 112, a post, an
  * account and a standing 96, the layout and the number of a state's words 24. JUSTRAVE_STACK is more than each.
  */
@@ -125,8 +125,8 @@ extern "C" {
 /*
  * An outcome, which every call returns but justrave_layout and justrave_state_words. 0 is accepted. Any other is a refusal: its number,
  * of documents 01 and 02 or 255, in the low 8 bits, and above them the place that the refusal names, plus 1, or 0 if it names none.
- * Refusals 3, 4, 5, 7 and 16 always name a place, so an outcome is never equal to their names: compare JUSTRAVE_NUMBER(outcome) with a
- * name, and the outcome itself with nothing but JUSTRAVE_ACCEPTED.
+ * Refusals 3, 4, 5, 7, 16 and 17 always name a place, so an outcome is never equal to their names: compare JUSTRAVE_NUMBER(outcome) with
+ * a name, and the outcome itself with nothing but JUSTRAVE_ACCEPTED.
  *
  * A refused call changes nothing: the state, the log, the buffer and the answer are what they were. Only a call that makes a state writes
  * when it is refused, unless for a length (255): it sets every word of the state to 0, and every call on such words but one that makes
@@ -152,6 +152,7 @@ enum {
     JUSTRAVE_BUFFER = 14,      /* the lent buffer is shorter than the table's bytes */
     JUSTRAVE_NO_ORDER = 15,    /* no order of the requestors passes */
     JUSTRAVE_CIRCLE = 16,      /* places follow one another in a circle; names the lowest place that is on one */
+    JUSTRAVE_NEED_ABOVE_BURST = 17, /* a need's j times D is above the burst of its place; names the place */
 
     /* caused by the state */
     JUSTRAVE_BACKLOG = 21,     /* more than 65,535 transfers would wait at the place */
@@ -190,8 +191,8 @@ size_t justrave_state_words(size_t places);
 
 /*
  * Reads a table's bytes and makes a state that stands at slot number `first`: every credit is its burst, every backlog 0. The words
- * may hold anything before. Refused 255, then 8, 9 and 1 to 5 number by number, then 10, 6, 7, then 12; the words are then all 0,
- * but for 255, which changes nothing.
+ * may hold anything before. Refused 255; then 8, 9 and 1 to 5 number by number, with 17 behind the last number of each place and ahead of
+ * the next one's first; then 10, 6, 7; then 12. The words are then all 0, but for 255, which changes nothing.
  */
 uint64_t justrave_start(const uint8_t *table, size_t table_length, uint64_t first, uint64_t *state, size_t state_length);
 
@@ -199,17 +200,18 @@ uint64_t justrave_start(const uint8_t *table, size_t table_length, uint64_t firs
  * The same for a table given as numbers, JUSTRAVE_TABLE_NUMBERS(places) of them for words with room for so many places: D, N, then rate,
  * burst and the need's j and L of each place. The four numbers of every place past N-1 are 0, or the table is refused 2. Of a table that
  * is accepted nobody has to encode the bytes: start it from its numbers, and justrave_write writes them. Refused 255; then 1 and 2; then
- * 3, 4 and 5 of each place before the next; then 6, 7 and 12. The words are then all 0, but for 255, which changes nothing.
+ * 3, 4, 5 and 17 of each place before the next; then 6, 7 and 12. The words are then all 0, but for 255, which changes nothing.
  */
 uint64_t justrave_start_numbers(const uint32_t *numbers, size_t numbers_length, uint64_t first, uint64_t *state,
                                 size_t state_length);
 
 /*
  * Makes a state of words of the old layout, JUSTRAVE_OLD_WORDS(places) of them for 1 to JUSTRAVE_OLD_PLACES places: with the same table,
- * slot number, credits and backlogs, and 0 past its last place. Every call on it then answers as it would have answered before; only names
- * for a chain, and numbers for a start in the same words, are lent for the new room. From then on JUSTRAVE_LAYOUT is kept beside its words.
- * The words of the state have room for as many places as the old ones, or for more, and may hold anything before. The old words are only
- * read, and are other memory than the state's: a state is not made over the words that it is made of.
+ * slot number, credits and backlogs, and 0 past its last place. Every call on it but a write then answers as it would have answered before;
+ * only names for a chain, and numbers for a start in the same words, are lent for the new room. A write does so too, unless the table has a
+ * need above its burst, which a start took at that time: this is carried over, and refused by a write alone. From then on JUSTRAVE_LAYOUT
+ * is kept beside its words. The words of the state have room for as many places as the old ones, or for more, and may hold anything before.
+ * The old words are only read, and are other memory than the state's: a state is not made over the words that it is made of.
  *
  * Refused 255, which changes nothing; and 23 where the old words break a rule, for which N is held to the places that they had room for.
  * The words of the state are then all 0.
@@ -225,8 +227,8 @@ uint64_t justrave_carry(const uint64_t *old, size_t old_length, uint64_t *state,
  *
  * Where several orders would do, the list decides. The lowest priority goes to the last requestor in the list that can bear all others
  * above it, which is to say that its finish figure there is at most its need's L; it leaves the list, the others stay as they stood, and
- * the next higher priority is given away in the same way. So a table that a start takes comes back as it is. Refused 255, then 8, 9 and
- * 1 to 5 number by number, where a place is one of the list, then 10, 6, 15, 14; never 7.
+ * the next higher priority is given away in the same way. So a table that a start takes comes back as it is. Refused 255; then 8, 9 and
+ * 1 to 5 number by number, with 17 behind the last number of each place, where a place is one of the list; then 10, 6, 15, 14; never 7.
  */
 uint64_t justrave_order(const uint8_t *table, size_t table_length, uint8_t *buffer, size_t buffer_length, uint64_t *answer,
                         size_t answer_length);
@@ -250,7 +252,7 @@ uint64_t justrave_run(uint64_t *state, size_t state_length, uint8_t *log, size_t
  * Answers two numbers of slots. The wait: at most so many slots in a row go to the places above. The finish figure: where at least
  * `transfers`, 1 to 255, wait at the place, as many are granted to it within that figure. The wait is B / R rounded up: B is the
  * sum of the bursts above the place, R what the rates above it leave of D. The finish figure is the sum of the fractions B / R and
- * transfers x D / rate, and only that sum is rounded up. Refused 255, 23, 11, 5.
+ * transfers x D / rate, and only that sum is rounded up. The place's burst is no limit to what is asked. Refused 255, 23, 11, 5.
  */
 uint64_t justrave_figures(const uint64_t *state, size_t state_length, size_t place, uint64_t transfers, uint64_t *answer,
                           size_t answer_length);
@@ -281,7 +283,9 @@ uint64_t justrave_lead(const uint64_t *state, size_t state_length, size_t place,
 
 /*
  * Writes the bytes of the state's table to the buffer's start, and leaves the rest of the buffer. The answer is how many bytes they
- * are; JUSTRAVE_TABLE_ROOM is always enough. Refused 255, 23, 7 (only in a state that no start made), 14.
+ * are; JUSTRAVE_TABLE_ROOM is always enough. Refused 255, 23, 17, 7, 14. 17 and 7 come only of a table that no start of today takes: 17
+ * with the lowest place that it holds of, and if there is none 7 with its own. A state may have such a table all the same, if it was started
+ * before 17 was tested or no start made it, and every other call serves it.
  */
 uint64_t justrave_write(const uint64_t *state, size_t state_length, uint8_t *buffer, size_t buffer_length, uint64_t *answer,
                         size_t answer_length);

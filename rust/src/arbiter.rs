@@ -109,7 +109,8 @@ impl Arbiter {
     ///
     /// # Errors
     ///
-    /// For the bytes, number by number, 8, 9 and 1 to 5; then 10, 6, 7; and then 12 for the slot number.
+    /// For the bytes, number by number, 8, 9 and 1 to 5, and 17 behind each place's last number; then 10, 6, 7; and then 12 for the slot
+    /// number.
     ///
     /// ```
     /// use justrave::{Arbiter, Slots};
@@ -159,7 +160,7 @@ impl<const ROOM: usize> Arbiter<ROOM> {
     ///
     /// # Errors
     ///
-    /// For the table 1 and 2; for each place 3, 4 and 5, before the next place is looked at; then 6, then 7, and for the slot number 12.
+    /// For the table 1 and 2; for each place 3, 4, 5 and 17, before the next place is looked at; then 6 and 7, and for the slot number 12.
     ///
     /// ```
     /// use justrave::{Arbiter, Requestor, Slots, Table, Transfers};
@@ -171,6 +172,11 @@ impl<const ROOM: usize> Arbiter<ROOM> {
     /// let hasty = Requestor { within: Slots(3), ..pump };
     /// let refusal = Arbiter::start_table(&Table::of(4, &[pump, hasty]), Slots(0)).unwrap_err();
     /// assert_eq!((refusal.number, refusal.place), (7, Some(1)));
+    ///
+    /// // a burst of 8 holds two transfers
+    /// let greedy = Requestor { need: Transfers(3), within: Slots(12), ..pump };
+    /// let refusal = Arbiter::start_table(&Table::of(4, &[greedy]), Slots(0)).unwrap_err();
+    /// assert_eq!((refusal.number, refusal.place), (17, Some(0)));
     /// ```
     pub fn start_table(table: &Table<ROOM>, first: Slots) -> Result<Arbiter<ROOM>, Refusal> {
         let mut made = Self::CLEARED;
@@ -306,7 +312,7 @@ impl<const ROOM: usize> Arbiter<ROOM> {
     }
 
     /// How many slots in a row can go to the places above at most, and within how many slots `transfers` are granted to the place
-    /// once at least so many wait there.
+    /// once at least so many wait there. They may be more than its burst holds.
     ///
     /// # Errors
     ///
@@ -415,7 +421,8 @@ impl<const ROOM: usize> Arbiter<ROOM> {
     ///
     /// # Errors
     ///
-    /// 23, 7 (only in a state that no start made), and 14 where the buffer is too short.
+    /// 23; 17 and 7, only where no start of today takes the table, as in a state that was started before 17 was tested; and 14 where the
+    /// buffer is too short.
     ///
     /// ```
     /// use justrave::{Arbiter, Slots};
@@ -540,8 +547,10 @@ impl<const ROOM: usize> Arbiter<ROOM> {
 
     /// An arbiter from words that were kept with the number [`OLD_LAYOUT`](crate::OLD_LAYOUT), by a unit that took at most
     /// [`OLD_PLACES`](crate::OLD_PLACES): with the same table, slot number, credits and backlogs, and nothing past its last place. Every
-    /// call on it then answers as it would have answered before; only who follows whom, and a table to restart with, are given for this
-    /// room. Keep [`layout`](crate::layout)'s number beside its words from then on.
+    /// call on it but [`write_table`](Arbiter::write_table) then answers as it would have answered before; only who follows whom, and a
+    /// table to restart with, are given for this room. So does `write_table`, unless the table has a need above its burst, which a start took
+    /// at that time: this is carried over, and refused by `write_table` alone. Keep [`layout`](crate::layout)'s number beside its words from
+    /// then on.
     ///
     /// # Errors
     ///

@@ -27,8 +27,8 @@ use crate::{sys, Refusal};
 ///
 /// # Errors
 ///
-/// For the bytes, number by number, 8, 9 and 1 to 5, where a place is one of the list; then 10 and 6; 15 where no order passes; and 14
-/// where the buffer is too short. It is never 7.
+/// For the bytes, number by number, 8, 9 and 1 to 5, and 17 behind each place's last number, where a place is one of the list; then 10 and
+/// 6; 15 where no order passes; and 14 where the buffer is too short. It is never 7.
 ///
 /// ```
 /// use justrave::{Cause, Refusal};

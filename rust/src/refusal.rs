@@ -26,11 +26,11 @@ pub enum Cause {
 /// ```
 #[derive(Clone, Copy, Debug, PartialEq, Eq, Hash)]
 pub struct Refusal {
-    /// The number that documents 01 and 02 give it: 1 to 16 or 21 to 23. 255 comes of old words that do not fit
+    /// The number that documents 01 and 02 give it: 1 to 17 or 21 to 23. 255 comes of old words that do not fit
     /// ([`carry_over`](crate::Arbiter::carry_over)); from any other call it says that the library that was linked has states or tables of
     /// another length than this crate was written for.
     pub number: u8,
-    /// The place at fault, where the number names one (3, 4, 5, 7, 16).
+    /// The place at fault, where the number names one (3, 4, 5, 7, 16, 17).
     pub place: Option<usize>,
     /// What caused it.
     pub cause: Cause,
@@ -65,6 +65,7 @@ impl Refusal {
             14 => "the buffer is too short for the table's bytes",
             15 => "no order of the requestors passes",
             16 => "places follow one another in a circle",
+            17 => "a need is larger than its burst",
             21 => "the backlog would pass its limit",
             22 => "the slot number would pass its limit",
             23 => "the state breaks a rule",

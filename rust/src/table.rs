@@ -14,7 +14,8 @@ pub struct Requestor {
     pub rate: u32,
     /// What it may save up while it is quiet, in parts of a transfer. The denominator to 16,777,216.
     pub burst: u32,
-    /// How many transfers, waiting together, are to be granted within the slots that `within` says. 1 to 255.
+    /// How many transfers, waiting together, are to be granted within the slots that `within` says. 1 to 255, and no more than the burst
+    /// holds: so many times the denominator is at most the burst.
     pub need: Transfers,
     /// The slots within which the transfers of `need` are to be granted. 1 to 1,073,741,824.
     pub within: Slots,

@@ -363,6 +363,8 @@ fn a_refused_start_clears_the_words() {
         (&T[..], (1 << 62) + 1, 12),
         (&[4, 2, 1, 8, 1, 4, 1, 4, 1, 6], 0, 7 + 256 * 2),
         (&[4, 1, 9], 0, 3 + 256),
+        (&[4, 2, 1, 8, 3, 12], 0, 17 + 256),
+        (&[4, 2, 1, 8, 1, 4, 1, 4, 2, 99, 0], u64::MAX, 17 + 256 * 2),
     ] {
         let mut state = [UNTOUCHED; WORDS];
         assert_eq!(start(table, first, &mut state), outcome);
@@ -435,6 +437,9 @@ fn a_refused_start_from_numbers_clears_the_words() {
         (2, 5, 0, 3 + 256),
         (7, 3, 0, 4 + 256 * 2),
         (9, u32::MAX, 0, 5 + 256 * 2),
+        (4, 3, u64::MAX, 17 + 256),
+        (8, 2, 0, 17 + 256 * 2),
+        (8, u32::MAX, 0, 5 + 256 * 2),
         (6, 4, 0, 6),
         (9, 6, u64::MAX, 7 + 256 * 2),
         (9, 7, (1 << 62) + 1, 12),
@@ -463,6 +468,24 @@ fn cleared_words_are_no_state() {
     assert_eq!(account(&state, 99, &mut answer), 23);
     assert_eq!(standing(&state, &mut answer), 23);
     assert_eq!((state, answer, lead_answer, log), ([0; WORDS], [UNTOUCHED; 2], [-7], [0xA5; 20]));
+}
+
+/// A need above its burst, which 23 does not look at: the calls on its state are served, and a writing is refused ahead of 7 and 14, and
+/// names the lower place of two.
+#[test]
+fn a_need_above_its_burst_is_not_written() {
+    for (needs, outcome) in [([3, 1], 17 + 256), ([1, 2], 17 + 256 * 2), ([255, 255], 17 + 256), ([2, 1], 7 + 256)] {
+        let (mut old, mut state) = (OLD, [UNTOUCHED; WORDS]);
+        // the needs of T's two places, behind rate and burst
+        (old[old_words_for(0) + 2], old[old_words_for(1) + 2]) = (needs[0], needs[1]);
+        assert_eq!(carry(&old, &mut state), 0, "{needs:?}");
+        let (kept, mut answer, mut buffer) = (state, [UNTOUCHED], [0xA5; 20]);
+        for room in [0, 20] {
+            assert_eq!(write(&state, &mut buffer[..room], &mut answer), outcome, "{needs:?} into {room} bytes");
+        }
+        assert_eq!((state, answer, buffer), (kept, [UNTOUCHED], [0xA5; 20]), "{needs:?}");
+        assert_eq!(post(&mut state, 0, 1), 0, "{needs:?}");
+    }
 }
 
 #[test]
@@ -573,6 +596,8 @@ fn refused_orders_write_nothing() {
         (&[4, 2, 1, 4, 1, 7, 5], 20, 3 + 256 * 2),
         (&[4, 2, 1, 3], 20, 4 + 256),
         (&[4, 2, 1, 4, 1, 7, 1, 8, 1, 0], 20, 5 + 256 * 2),
+        (&[4, 2, 1, 4, 2, 7], 20, 17 + 256),
+        (&[4, 2, 1, 4, 1, 6, 1, 8, 3, 4, 0], 0, 17 + 256 * 2),
         (&[4, 2, 1, 4, 1, 7, 1, 8, 1, 4, 0], 20, 10),
         (&[4, 2, 3, 4, 1, 2, 2, 4, 1, 8], 20, 6),
         (&[4, 2, 1, 4, 1, 6, 1, 8, 1, 4], 20, 15),

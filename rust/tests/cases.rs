@@ -268,6 +268,58 @@ fn request_5_a_unit_that_is_updated() {
     line.restart_table(&heads(40), Slots(1_002)).expect("forty heads are accepted");
 }
 
+/// A head with a burst of two transfers: needs of one and of two are taken, and three or ten are 17, with the place. So are two where the
+/// burst is one part of a transfer short.
+#[test]
+fn request_6_a_need_of_ten_with_a_burst_of_two() {
+    let pump = Requestor { rate: 1, burst: 20, need: Transfers(1), within: Slots(1_000) };
+    let start = |heads: &[Requestor]| Arbiter::start_table(&Table::of(10, heads), Slots(0)).map(|_| ());
+    let refusal = |place| Err(Refusal { number: 17, place: Some(place), cause: Cause::Input });
+    let needs = |need| Requestor { need: Transfers(need), ..pump };
+    assert_eq!(start(&[pump, needs(1)]), Ok(()));
+    assert_eq!(start(&[pump, needs(2)]), Ok(()));
+    assert_eq!(start(&[pump, needs(3)]), refusal(1));
+    assert_eq!(start(&[pump, needs(10)]), refusal(1));
+    assert_eq!(start(&[needs(10), needs(10)]), refusal(0));
+    assert_eq!(start(&[pump, Requestor { burst: 19, ..needs(2) }]), refusal(1));
+    assert_eq!(refused(&[10, 2, 1, 20, 2, 100, 1, 20, 10, 127]), (17, Some(1)));
+    started(&[10, 2, 1, 20, 2, 100, 1, 20, 2, 127]);
+}
+
+/// Bytes are turned down as soon as the place is read, whatever comes next: nothing, no number, or a byte too many.
+#[test]
+fn request_6_ahead_of_what_stands_behind_the_place() {
+    assert_eq!(refused(&[10, 2, 1, 20, 3, 100]), (17, Some(0)));
+    assert_eq!(refused(&[10, 2, 1, 20, 3, 100, 0x84, 0x00]), (17, Some(0)));
+    assert_eq!(refused(&[10, 2, 1, 20, 3, 100, 0]), (17, Some(0)));
+    assert_eq!(refused(&[10, 1, 1, 20, 3, 100, 0]), (17, Some(0)));
+    assert_eq!(refused(&[10, 1, 1, 20, 3]), (8, None));
+    assert_eq!(refused(&[10, 1, 1, 20, 3, 0]), (5, Some(0)));
+    let refusal = justrave::order(&[10, 2, 1, 20, 2, 100, 1, 20, 3, 1], &mut []).unwrap_err();
+    assert_eq!((refusal.number, refusal.place), (17, Some(1)));
+}
+
+/// A unit that was started before the request, with a need of ten: it runs on and answers everything, and only its table is not written.
+#[test]
+fn request_6_a_unit_that_runs_already() {
+    // D and N, and slot 1,000 comes next; rate, burst, need and its slots; full credit, and two transfers wait
+    let kept = [10, 1, 1_000, 1, 20, 10, 100, 20, 2];
+    let mut line = Arbiter::<1>::carry_over(&kept).expect("the state is sound");
+    line.post(0, Transfers(1)).unwrap();
+    assert_eq!(line.slot(), Ok(SlotAnswer::Granted(Slots(1_000), 0)));
+    let mut log = [0xA5; 9];
+    line.run(&mut log).unwrap();
+    assert_eq!(log, [0, 255, 255, 255, 255, 255, 255, 255, 0]);
+    assert_eq!(line.lead(0, &log), Ok(2 * 10 - 9));
+    assert_eq!(line.figures(0, Transfers(10)), Ok(Figures { wait: Slots(0), finish: Slots(100) }));
+    assert_eq!(line.figures(0, Transfers(255)), Ok(Figures { wait: Slots(0), finish: Slots(2_550) }));
+    assert_eq!(line.chain(0, &[None]), Ok(Slots(10)));
+    assert_eq!(line.account(0), Ok(Account { credit: 0, backlog: Transfers(0) }));
+    assert_eq!(line.standing(), Ok(Standing { slot: Slots(1_010), places: 1 }));
+    let refusal = Refusal { number: 17, place: Some(0), cause: Cause::Input };
+    assert_eq!((line.write_table(&mut [0; 9]), line.write_table(&mut [])), (Err(refusal), Err(refusal)));
+}
+
 #[test]
 fn case_12_others_who_begin_later() {
     let mut line = started(&[4, 2, 1, 40, 1, 100, 1, 4, 1, 100]);

@@ -119,6 +119,25 @@ fn an_order_tells_a_length_or_a_refusal() {
     assert_eq!(buffer, [4, 2, 1, 8, 1, 4, 1, 4, 1, 7, 0xA5, 0xA5]);
 }
 
+/// A need above its burst is told with its place, and in words. One that has no 32 bits is no smaller one, and neither it nor any other
+/// above 255 is a need at all.
+#[test]
+fn a_need_above_its_burst() {
+    let pump = Requestor { rate: 1, burst: 8, need: Transfers(1), within: Slots(100) };
+    let started = |need| {
+        let table = Table::<2>::in_room(4, &[pump, Requestor { need: Transfers(need), ..pump }]);
+        Arbiter::start_table(&table, Slots(0)).map(|_| ())
+    };
+    assert_eq!((started(1), started(2)), (Ok(()), Ok(())));
+    let told = started(3).unwrap_err();
+    assert_eq!(told, Refusal { number: 17, place: Some(1), cause: Cause::Input });
+    assert_eq!(told.to_string(), "refused 17 at place 1, by the input: a need is larger than its burst");
+    assert_eq!(started(255), Err(told));
+    for need in [0, 256, 1 << 30, 1 << 32, (1 << 32) + 1, 1 << 62, u64::MAX - 1, u64::MAX] {
+        assert_eq!(started(need), Err(Refusal { number: 5, ..told }), "a need of {need}");
+    }
+}
+
 /// Table T with room for three places.
 fn line_of_two() -> Arbiter<3> {
     Arbiter::start_in_room(&[4, 2, 1, 8, 1, 4, 1, 4, 1, 7], Slots(0)).expect("it is accepted")

@@ -15,10 +15,11 @@ use Rattle.terms.specs.Limits.{maxBurst, maxNeed, maxWithin, maxDenominator}
 use Rattle.terms.specs.Table.{noRequestor, requestorAt, requestorsOf}
 use Rattle.terms.specs.Figures.{burstsAbove, ratesAbove, finishOf, finish}
 use Rattle.terms.proofs.Above.{above}
+use Rattle.terms.proofs.Checks.{offered-passes}
 use Rattle.layout.specs.Words.{wordCount, roomOf, rightLength, rowIn, wordsState}
 use Rattle.layout.proofs.Items.{length-places, at-place}
 use Rattle.layout.proofs.RoundTrip.{right}
-use Rattle.admission.specs.Checked.{tableIn, rowsIn, Checked, Parts}
+use Rattle.admission.specs.Checked.{tableIn, rowsIn, Checked, OfferChecked, Parts}
 
 module _ (words : List ℕ) where
   -- ---- the table's fields
@@ -63,6 +64,10 @@ module _ (words : List ℕ) where
       ∙ ap (λ r. total f (take p (rowsIn words)) + f r) (row-at p (room-past p there))
 
 -- ---- a place below N of words that passed checks 1 to 6
+
+-- as those that passed 17 too have
+pub offered-checked : (most : ℕ) (words : List ℕ) → OfferChecked most words → Checked most words
+offered-checked most words o = record { right = o .right; passes = offered-passes (roomOf words) (tableIn words) (o .passes) }
 
 pub record Placed (most : ℕ) (words : List ℕ) (p : ℕ) : Type 0 where
   pub there : wordCount (p + 1) ≤ length words

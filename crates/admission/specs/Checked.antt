@@ -4,7 +4,7 @@ use mathlib.Core.Bool.{true}
 use mathlib.Core.List.{List}
 use Prim.Native.Nat.{ℕ, _*_, _≤_}
 use Rattle.terms.specs.declared.place.Requestor.{Requestor}
-use Rattle.terms.specs.Table.{Table, denominatorBounds, countBounds, heldTo, requestorsOf, rowVerdict, eachPlace, tableVerdict}
+use Rattle.terms.specs.Table.{Table, denominatorBounds, countBounds, heldTo, requestorsOf, offeredRowVerdict, eachPlace, tableVerdict, offeredVerdict}
 use Rattle.terms.specs.Limits.{maxDenominator, maxBurst, maxNeed}
 use Rattle.terms.specs.Refusals.{Verdict, faultless, then}
 use Rattle.layout.specs.Words.{roomOf, rightLength, stateOf}
@@ -20,9 +20,9 @@ rowsIn words = tableIn words .requestors
 abbrev pub limitsVerdict : (room : ℕ) → Table → Verdict
 limitsVerdict room t = then (heldTo denominatorBounds (t .denominator)) (heldTo (countBounds room) (t .count))
 
--- checks 3, 4 and 5, place by place
-abbrev pub rowsVerdict : Table → Verdict
-rowsVerdict t = eachPlace (rowVerdict (t .denominator)) 0 (requestorsOf t)
+-- checks 3, 4, 5 and 17, place by place
+abbrev pub offeredRowsVerdict : Table → Verdict
+offeredRowsVerdict t = eachPlace (offeredRowVerdict (t .denominator)) 0 (requestorsOf t)
 
 -- words of a right length with room for the table's N places
 pub record Counted (most : ℕ) (words : List ℕ) : Type 0 where
@@ -33,6 +33,11 @@ pub record Counted (most : ℕ) (words : List ℕ) : Type 0 where
 pub record Checked (most : ℕ) (words : List ℕ) : Type 0 where
   pub right : rightLength most words ≡ true
   pub passes : tableVerdict (roomOf words) (tableIn words) ≡ faultless
+
+-- and whose table passes 17 too
+pub record OfferChecked (most : ℕ) (words : List ℕ) : Type 0 where
+  pub right : rightLength most words ≡ true
+  pub passes : offeredVerdict (roomOf words) (tableIn words) ≡ faultless
 
 -- the parts of a finish figure within their limits, so that the figure fits: D, B, R, the place's own rate, and j
 pub record Parts (most d bursts left n j : ℕ) : Type 0 where

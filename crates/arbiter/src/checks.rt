@@ -1,8 +1,8 @@
-// Checks 1 to 6 of the table that words are. N is held to the room that the words have.
+// Checks 1 to 6, with 17 among them, of the table that words are. N is held to the room that the words have.
 use crate::bounds::count_bounds;
 use crate::bounds::denominator_bounds;
-use crate::rows::check_row;
-use crate::rows::row_holds;
+use crate::rows::check_offered_row;
+use crate::rows::offered_row_holds;
 use admission::checks::check_rate_sum;
 use admission::checks::check_tail;
 use layout::words::count;
@@ -15,9 +15,9 @@ ghost use mathlib.Core.Path.{_≡_};
 ghost use mathlib.Core.Bool.{true};
 ghost use Rattle.terms.specs.Limits.{maxPlaces};
 ghost use Rattle.terms.specs.Refusals.{verdictOf};
-ghost use Rattle.terms.specs.Table.{tableVerdict};
+ghost use Rattle.terms.specs.Table.{offeredVerdict};
 ghost use Rattle.layout.specs.Words.{roomOf, rightLength};
-ghost use Rattle.admission.specs.Checked.{tableIn, limitsVerdict, rowsVerdict, Counted};
+ghost use Rattle.admission.specs.Checked.{tableIn, limitsVerdict, offeredRowsVerdict, Counted};
 
 // Check 1, and check 2 of N itself.
 fn check_limits(words: &[u64]) -> Verdict
@@ -32,10 +32,10 @@ fn check_limits(words: &[u64]) -> Verdict
     first_fault(denominator, count)
 }
 
-// Checks 3, 4 and 5, place by place. Which of them fails is asked only of a row that does not hold.
+// Checks 3, 4, 5 and 17, place by place. Which of them fails is asked only of a row that does not hold.
 fn check_rows(words: &[u64]) -> Verdict
     requires { ⌜ Counted maxPlaces (now words) ⌝ }
-    ensures { λ v. ⌜ verdictOf v ≡ rowsVerdict (tableIn (now (words .entry))) ⌝ }
+    ensures { λ v. ⌜ verdictOf v ≡ offeredRowsVerdict (tableIn (now (words .entry))) ⌝ }
 {
     let d = denominator(words);
     let n = count(words);
@@ -45,18 +45,18 @@ fn check_rows(words: &[u64]) -> Verdict
             break Verdict::Faultless;
         }
         let r = requestor(words, p);
-        if !row_holds(d, p, r) {
-            break check_row(d, p, r);
+        if !offered_row_holds(d, p, r) {
+            break check_offered_row(d, p, r);
         }
         p = p + 1;
     };
     v
 }
 
-// Checks 1 to 6. Rates are added up once each of them is known to be at most D.
-pub(crate) fn check_table(words: &[u64]) -> Verdict
+// All of them. Rates are added up once each of them is known to be at most D.
+pub(crate) fn check_offered(words: &[u64]) -> Verdict
     requires { ⌜ rightLength maxPlaces (now words) ≡ true ⌝ }
-    ensures { λ v. ⌜ verdictOf v ≡ tableVerdict (roomOf (now (words .entry))) (tableIn (now (words .entry))) ⌝ }
+    ensures { λ v. ⌜ verdictOf v ≡ offeredVerdict (roomOf (now (words .entry))) (tableIn (now (words .entry))) ⌝ }
 {
     let limits = check_limits(words);
     match limits {

@@ -1,19 +1,22 @@
-// Checks 3, 4 and 5 of a row: which of them fails first, and whether none does.
+// The checks of a row: which of them fails first, and whether none does. A state's table is held to 3, 4 and 5; one that asks to be
+// admitted also to 17.
 use crate::bounds::burst_bounds;
 use crate::bounds::need_bounds;
 use crate::bounds::rate_bounds;
 use crate::bounds::within_bounds;
+use admission::needs::check_need_fits;
+use admission::needs::need_fits;
 use terms::place::Requestor;
 use terms::refusals::Verdict;
 use terms::refusals::first_fault;
 ghost use mathlib.Core.Path.{_≡_};
 ghost use Rattle.terms.specs.Refusals.{verdictOf};
-ghost use Rattle.terms.specs.Table.{rowVerdict};
+ghost use Rattle.terms.specs.Table.{fieldsVerdict, offeredRowVerdict};
 ghost use Rattle.terms.specs.State.{isFaultless};
 
-// The first fault of the requestor at place p.
-pub fn check_row(d: u64, p: usize, r: Requestor) -> Verdict
-    ensures { λ v. ⌜ verdictOf v ≡ rowVerdict d p r ⌝ }
+// The first fault of the requestor at place p among 3, 4 and 5.
+pub fn check_fields(d: u64, p: usize, r: Requestor) -> Verdict
+    ensures { λ v. ⌜ verdictOf v ≡ fieldsVerdict d p r ⌝ }
 {
     let j = r.need;
     let l = r.within;
@@ -25,8 +28,8 @@ pub fn check_row(d: u64, p: usize, r: Requestor) -> Verdict
 }
 
 // Whether it has none.
-pub fn row_holds(d: u64, p: usize, r: Requestor) -> bool
-    ensures { λ b. ⌜ b ≡ isFaultless (rowVerdict d p r) ⌝ }
+pub fn fields_hold(d: u64, p: usize, r: Requestor) -> bool
+    ensures { λ b. ⌜ b ≡ isFaultless (fieldsVerdict d p r) ⌝ }
 {
     let j = r.need;
     let l = r.within;
@@ -40,4 +43,25 @@ pub fn row_holds(d: u64, p: usize, r: Requestor) -> bool
         return false;
     }
     within_bounds(p).admits(l.0)
+}
+
+// The first fault of the requestor at place p among 3, 4, 5 and 17.
+pub fn check_offered_row(d: u64, p: usize, r: Requestor) -> Verdict
+    ensures { λ v. ⌜ verdictOf v ≡ offeredRowVerdict d p r ⌝ }
+{
+    let row = check_fields(d, p, r);
+    match row {
+        Verdict::Fault(_) => row,
+        Verdict::Faultless => check_need_fits(d, p, r),
+    }
+}
+
+// Whether it has none.
+pub fn offered_row_holds(d: u64, p: usize, r: Requestor) -> bool
+    ensures { λ b. ⌜ b ≡ isFaultless (offeredRowVerdict d p r) ⌝ }
+{
+    if !fields_hold(d, p, r) {
+        return false;
+    }
+    need_fits(d, r)
 }

@@ -23,7 +23,7 @@ pub struct StartResult {
     pub answer: StartAnswer,
 }
 
-// A start of the table that the words are, where their length is a state's. Refused: 1 to 7, 12.
+// A start of the table that the words are, where their length is a state's. Refused: 1 to 7, 17, 12.
 pub(crate) fn start_right(words: &mut [u64], first: Slots) -> StartAnswer
     requires { ⌜ rightLength maxPlaces (now words) ≡ true ⌝ }
     ensures { λ a. ⌜ record { state = stateOf (now (words .exit)); answer = startAnswerOf a } ≡ start (roomOf (now (words .entry))) (stateOf (now (words .entry)) .table) (first .0) ⌝ }

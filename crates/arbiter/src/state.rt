@@ -61,7 +61,7 @@ impl Arbiter {
         }
     }
 
-    // The state of a table and a first slot number that pass every check; else one whose every field is 0. Refused: 1 to 7, 12.
+    // The state of a table and a first slot number that pass every check; else one whose every field is 0. Refused: 1 to 7, 17, 12.
     pub fn start(t: Table, first: Slots) -> StartResult
         ensures { λ r. ⌜ startResultOf r ≡ start maxPlaces (given t) (first .0) ⌝ }
     {

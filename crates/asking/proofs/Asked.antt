@@ -5,10 +5,9 @@ use mathlib.Core.Bool.{true, false}
 use mathlib.Core.List.{List}
 use Prim.Native.Nat.{ℕ, _<_}
 use native.Mathlib.Omega.{arith}
-use Rattle.terms.specs.Table.{Table, requestorAt, tableVerdict}
-use Rattle.terms.specs.Figures.{finishesVerdict, admissionVerdict}
+use Rattle.terms.specs.Table.{requestorAt}
 use Rattle.terms.specs.State.{State, accountAt, sound, placeVerdict}
-use Rattle.terms.specs.Refusals.{faultless, refusal, gate, then}
+use Rattle.terms.specs.Refusals.{faultless, refusal, gate}
 use Rattle.terms.proofs.Checks.{Row, fair}
 use Rattle.terms.proofs.Sound.{place-open}
 use Rattle.table_bytes.proofs.Writings.{row-fits}
@@ -41,11 +40,6 @@ module _ (most : ℕ) (words : List ℕ) where
 
     pub asked-account : accountIn words p ≡ accountAt p (stateOf words .accounts)
     asked-account = sym (account-at (roomOf words) words p in-room)
-
--- check 7 is all that is left of admission
-pub finishes-left : (limit : ℕ) (t : Table) → tableVerdict limit t ≡ faultless → admissionVerdict limit t ≡ finishesVerdict t
-unfolding admissionVerdict then
-finishes-left limit t passes = rw passes
 
 -- ---- the ways out
 

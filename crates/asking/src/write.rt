@@ -1,5 +1,5 @@
 // The bytes of the table that words are, in a lent buffer.
-use admission::finishes::check_finishes;
+use arbiter::admit::admit;
 use layout::words::count;
 use layout::words::denominator;
 use layout::words::requestor;
@@ -18,7 +18,6 @@ ghost use Rattle.lists.specs.Overwriting.{writtenOver};
 ghost use Rattle.terms.specs.Limits.{maxPlaces};
 ghost use Rattle.terms.specs.Refusals.{verdictOf};
 ghost use Rattle.terms.specs.Figures.{admissionVerdict};
-ghost use Rattle.terms.specs.State.{sound};
 ghost use Rattle.table_bytes.specs.Writing.{tableNumbers, writeTable, writeAnswerOf};
 ghost use Rattle.layout.specs.Words.{roomOf, rightLength, stateOf};
 ghost use Rattle.admission.specs.Checked.{tableIn, Checked};
@@ -49,7 +48,7 @@ fn numbers_of_words(words: &[u64]) -> [u32; MAX_NUMBERS]
 }
 
 // The table's bytes from the buffer's start on; the bytes beyond are left as they were, and so are all of them if it is refused. What
-// admission finds is the caller's to say, since a state's table has passed 1 to 6 with test 23. Refused: 1 to 7, 14.
+// admission finds is the caller's to say, since a table that was put in order has passed it. Refused: 1 to 7, 17, 14.
 pub fn write_words(words: &[u64], admission: Verdict, buffer: &mut [u8]) -> WriteAnswer
     requires { ⌜ (rightLength maxPlaces (now words) ≡ true) × (verdictOf admission ≡ admissionVerdict (roomOf (now words)) (tableIn (now words))) ⌝ }
     ensures { λ a. ⌜ record { answer = writeAnswerOf a; buffer = now (buffer .exit) } ≡ writeTable (roomOf (now (words .entry))) (stateOf (now (words .entry)) .table) (now (buffer .entry)) ⌝ }
@@ -69,11 +68,11 @@ pub fn write_words(words: &[u64], admission: Verdict, buffer: &mut [u8]) -> Writ
     }
 }
 
-// The table of a state that passed test 23. Refused: 7, 14.
-pub fn write_state(words: &[u64], buffer: &mut [u8]) -> WriteAnswer
-    requires { ⌜ (rightLength maxPlaces (now words) ≡ true) × (sound (roomOf (now words)) (stateOf (now words)) ≡ true) ⌝ }
+// The same, with admission asked first. Of a state that passed test 23 it can only find 17 and 7.
+pub fn admit_and_write(words: &[u64], buffer: &mut [u8]) -> WriteAnswer
+    requires { ⌜ rightLength maxPlaces (now words) ≡ true ⌝ }
     ensures { λ a. ⌜ record { answer = writeAnswerOf a; buffer = now (buffer .exit) } ≡ writeTable (roomOf (now (words .entry))) (stateOf (now (words .entry)) .table) (now (buffer .entry)) ⌝ }
 {
-    let finishes = check_finishes(words);
-    write_words(words, finishes, buffer)
+    let admission = admit(words);
+    write_words(words, admission, buffer)
 }

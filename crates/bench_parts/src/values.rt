@@ -20,6 +20,17 @@ pub fn row(n: u64, b: u64, l: u64) -> Requestor {
     }
 }
 
+// A row with this many transfers in its need.
+pub fn needing(j: u64, r: Requestor) -> Requestor {
+    let within = r.within;
+    Requestor {
+        rate: r.rate,
+        burst: r.burst,
+        need: Transfers(j),
+        within: within,
+    }
+}
+
 // A table of D and N whose rows are all 0.
 fn bare_table(d: u64, n: usize) -> Table {
     let none = no_requestor();

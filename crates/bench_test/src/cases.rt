@@ -1,4 +1,4 @@
-// Document 01's cases, in its order; then the thin form, more of replay and of writing, looks into a state, and document 02's requests 2, 4 and 5.
+// Document 01's cases, in its order; then the thin form, more of replay and of writing, looks into a state, and document 02's requests 2, 4, 5 and 6.
 use crate::answers::admits;
 use crate::answers::carries;
 use crate::answers::chains;
@@ -18,6 +18,7 @@ use arbiter::state::Arbiter;
 use bench_parts::printing::case;
 use bench_parts::printing::decimals;
 use bench_parts::values::account;
+use bench_parts::values::needing;
 use bench_parts::values::one_place;
 use bench_parts::values::row;
 use bench_parts::values::t;
@@ -212,6 +213,25 @@ fn carried_over() {
     carries(old_t(Arbiter::OLD_PLACES as u64 + 1));
 }
 
+// Document 02, request 6: T with two transfers in the pump's need, which its burst just holds, and with three; the probe's with two, as a
+// table, as a list, as bytes that end behind it, and to be written.
+fn needs_above_bursts() {
+    let mut buffer = [170u8; 3];
+    let long = two_places(4, row(1, 8, 4), needing(2, row(1, 4, 11)));
+    case(0);
+    admits(two_places(4, needing(2, row(1, 8, 8)), row(1, 4, 7)));
+    case(0);
+    admits(two_places(4, needing(3, row(1, 8, 12)), row(1, 4, 7)));
+    case(0);
+    admits(long);
+    case(0);
+    orders(long);
+    case(0);
+    reads_table(b"\x04\x02\x01\x04\x02\x0b");
+    case(0);
+    writes_table(long, &mut buffer);
+}
+
 // A place, one that is not there, and a state with a credit above its burst.
 fn looks_into_a_state() {
     let s = t_with(account(5, 3), account(2, 1), 7);
@@ -240,4 +260,5 @@ pub fn all() {
     put_in_order();
     one_behind_the_other();
     carried_over();
+    needs_above_bursts();
 }

@@ -27,7 +27,8 @@ fn answer_of(a: StartAnswer) -> ReadAnswer
     }
 }
 
-// A refused reading hands back a table whose every field is 0. Refused: 1 to 5, 8 and 9 as the numbers are read, then 10, 6, 7.
+// A refused reading hands back a table whose every field is 0. Refused: 1 to 5, 8 and 9 as the numbers are read, 17
+// behind each place, then 10, 6, 7.
 pub fn read_table(bytes: &[u8]) -> ReadResult
     ensures { λ r. ⌜ readResultOf r ≡ readTable maxPlaces (now (bytes .entry)) ⌝ }
 {

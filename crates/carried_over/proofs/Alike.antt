@@ -8,7 +8,6 @@ use lib.ListN.{length}
 use Rattle.lists.specs.Runs.{end, answers}
 use Rattle.lists.proofs.Runs.{keeps, end-append, answers-append}
 use Rattle.lists.proofs.Tests.{cases}
-use Rattle.terms.specs.Table.{Table}
 use Rattle.terms.specs.State.{State, sound, Shaped}
 use Rattle.terms.specs.Refusals.{refusal, gate}
 use Rattle.terms.specs.Answers.{accepted, refused}
@@ -18,13 +17,13 @@ use Rattle.carrying.proofs.Kept.{as-state-kept, kept-many}
 use Rattle.carrying.proofs.Fits.{as-state-shaped}
 use Rattle.terms.proofs.Longer.{longer-shaped, few-places, same-sound, same-figures}
 use Rattle.terms.proofs.Checks.{fair}
-use Rattle.terms.proofs.Sound.{sound-table}
+use Rattle.terms.proofs.Sound.{Sound, sound-table, sound-open, sound-shut}
 use Rattle.rule.specs.Calls.{Call, called}
 use Rattle.rule.proofs.Longer.{call-shaped, call-few, same-call, same-run}
-use Rattle.guarantees.specs.Counts.{Accepted, startState, stateAfter}
-use Rattle.guarantees.proofs.Start.{entered-sound, entered-ruled}
-use Rattle.guarantees.proofs.CreditSums.{credit-sums}
-use Rattle.carried_over.specs.Alike.{Alike, Runs-on-alike, Carried-mid-run, Count-above-is-23, Sound-is-carried, Carried-from-start}
+use Rattle.guarantees.specs.Counts.{startState, stateAfter}
+use Rattle.guarantees.proofs.Start.{called-sound}
+use Rattle.guarantees.proofs.Sound.{sound-end, end-ruled}
+use Rattle.carried_over.specs.Alike.{Alike, Runs-on-alike, Carried-mid-run, Count-above-is-23, Sound-is-carried, Carried-from-sound, Carried-from-start}
 use Rattle.carried_over.proofs.Longer.{same-chain, same-look, same-standing, same-lead, same-write}
 
 -- ---- a list of calls
@@ -121,19 +120,19 @@ count-above-is-23 old new o over = cases (sound old (asState o))
     (λ q. absurd (omega (arith, over, fair old (asState o .table) (sound-table old (asState o) q) .count-most)))
     (λ q. rw q)
 
--- ---- from an accepted start
+-- ---- from a sound state, and from an accepted start
+
+pub carried-from-sound : Carried-from-sound
+carried-from-sound old new larger s shape ok before after =
+    let v = sound-end old s before (sound-open old s shape ok) in
+    let last : Sound old (end (called old) s before) = rw (end-ruled old s before (sound-open old s shape ok)) v in
+    let shaped : Shaped old (end (called old) s before) = record { rows = last .rows; accounts = last .accounts } in
+    let fine = ap (sound old) (as-state-kept old (end (called old) s before) shaped) ∙ sound-shut old (end (called old) s before) last in
+    let accepts = sound-is-carried old new (kept (end (called old) s before)) (kept-many old (end (called old) s before) shaped) larger fine .0 in
+    (accepts, carried-mid-run old new larger s shape before after accepts)
 
 pub carried-from-start : Carried-from-start
 carried-from-start old new larger t first a before inside more =
-    let s = stateAfter old t first before in
-    let last = stateAfter old t first (before ++ inside) in
-    let shape = entered-shaped old t first a (before ++ inside) in
-    let fine : sound old (asState (kept last)) ≡ true = ap (sound old) (as-state-kept old last shape) ∙ credit-sums old t first a (before ++ inside) .passes-23 in
-    let ok = sound-is-carried old new (kept last) (kept-many old last shape) larger fine .0 in
+    let v = called-sound old t first a before in
     let there = end-append (called old) (startState old t first) before inside in
-    (ok, rw (sym there) at (carried-mid-run old new larger s (entered-shaped old t first a before) inside more) ok)
-  where
-    entered-shaped : (limit : ℕ) (t : Table) (first : ℕ) → Accepted limit t first → (calls : List Call) → Shaped limit (stateAfter limit t first calls)
-    entered-shaped limit t first a calls =
-        let v = entered-sound limit t first a calls in
-        rw (entered-ruled limit t first a calls) (record { rows = v .rows; accounts = v .accounts })
+    rw (sym there) at (carried-from-sound old new larger (stateAfter old t first before) (record { rows = v .rows; accounts = v .accounts }) (sound-shut old _ v) inside more)

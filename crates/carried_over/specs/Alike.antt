@@ -35,6 +35,7 @@ pub record Alike (old new : ℕ) (s t : State) : Type 0 where
   pub lead : (p : ℕ) (log : List ℕ) → leadAsked new t p log ≡ leadAsked old s p log
   pub figures : (p j : ℕ) → asked.figures new t p j ≡ asked.figures old s p j
   pub chain : (p : ℕ) (names : List ℕ) → chains.chain new t p names ≡ chains.chain old s p names
+  -- the writer of today on both sides, with 17
   pub write : (buffer : List ℕ) → writeTable new (t .table) buffer ≡ writeTable old (s .table) buffer
   pub account : (p : ℕ) → look.accountAsked new t p ≡ look.accountAsked old s p
   pub standing : look.standing new t ≡ look.standing old s
@@ -64,6 +65,14 @@ Sound-is-carried =
     (old new : ℕ) (o : OldState) → length (o .places) ≡ old → old ≤ new → sound old (asState o) ≡ true
     → let r = carry old new o in
     (r .answer ≡ accepted) × Shaped new (r .state) × (sound new (r .state) ≡ true)
+
+-- From any sound state of an old unit: after any calls it is carried over, and the answers are those of the run that was not broken off. One
+-- such state is that of a start with a need above its burst, which old units did not refuse (request 6).
+abbrev pub Carried-from-sound : Type 0
+Carried-from-sound =
+    (old new : ℕ) → old ≤ new → (s : State) → Shaped old s → sound old s ≡ true → (before after : List Call)
+    → let r = carry old new (kept (end (called old) s before)) in
+    (r .answer ≡ accepted) × (answers (called old) s (before ++ after) ≡ answers (called old) s before ++ answers (called new) (r .state) after)
 
 -- An old unit's line from an accepted start: after any calls it is carried over, and what is heard in a stretch that begins before that and
 -- ends after it is what a stretch without it hears. So Demand3 says of it what it says of that one.

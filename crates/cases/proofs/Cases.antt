@@ -9,7 +9,7 @@ use Rattle.lists.specs.Runs
 use Rattle.lists.specs.Places.{placesFrom}
 use Rattle.groups.specs.Groups.{lastGroup, combined, laterGroups, numberOf, groupsOf, numberBytes, numberWritten}
 use Rattle.terms.specs.Refusals.{gate, then}
-use Rattle.terms.specs.Table.{tableOf, heldTo, rowVerdict, eachPlace, tailVerdict, rateSumVerdict, tableVerdict}
+use Rattle.terms.specs.Table.{tableOf, heldTo, fieldsVerdict, eachPlace, tailVerdict, rateSumVerdict, needFits, needFitsVerdict, offeredRowVerdict, verdictBy}
 use Rattle.terms.specs.Figures.{roundedUp, finish, finishVerdict, admissionVerdict}
 use Rattle.terms.specs.State.{accountsHold, sound, placeVerdict}
 use Rattle.terms.specs.Start.{opening, noState, startVerdict, start}
@@ -18,7 +18,7 @@ use Rattle.terms.specs.Asked.{figuresVerdict, figures}
 use Rattle.terms.specs.Chain.{named, follows, chainTo, chainFigure, nameVerdict, circleVerdict, followingVerdict, chainVerdict, chain}
 use Rattle.terms.specs.Input.{inputVerdict}
 use Rattle.lead_parts.specs.Lead.{leadOf, leadVerdict, leadAsked}
-use Rattle.table_bytes.specs.Reading.{next, fieldRead, rowRead, itemsRead, placesRead, numbersRead, lastVerdict, settled, readTable}
+use Rattle.table_bytes.specs.Reading.{next, fieldRead, rowFieldsRead, rowRead, itemsRead, lastVerdict, settled, readTable, placesBy, numbersBy}
 use Rattle.table_bytes.specs.Writing.{tableNumbers, tableBytes, writeVerdict, writeTable}
 use Rattle.rule.specs.Rule.{eligible, later, firstEligible, served, passed, after}
 use Rattle.rule.specs.Grants.{toPlace}
@@ -41,8 +41,9 @@ use Rattle.cases.specs.ListingRows.{headerText, listingRows}
 use Rattle.cases.specs.RequestRows.{tableThirds, tableFaster, tableTens, tableHigh, finishRows, tableThree, tableBasin, tableGuessed, tableAlike, withinsRising, withinsFalling, patient, greedy, tableWhole, searchRows, bytesGuessed, searchBytesRows}
 use Rattle.cases.specs.ChainRows.{allInOne, chainRows, circleRows, absentRows, tableDisplay, displayCalls, displayRows}
 use Rattle.cases.specs.CarryRows.{tableOneMore, bytesOneMore, wideTableRows, oldOf, oldT, oldWith, oldPast, atLast, oldFull, basinCalls, basinBefore, basinLog, basinLast, carryRows, sideRows, oldUnsoundRows}
+use Rattle.cases.specs.NeedRows.{tableTwo, tableLastPair, tableBasinWith, needRows, needOrderRows, needBytesRows, tableThrice, thrice, needServedRows}
 use Rattle.cases.specs.Cases.{All-pass}
 
 pub all-pass : All-pass
-unfolding total joined every upTo Runs.end Runs.answers lastGroup combined laterGroups numberOf groupsOf numberBytes numberWritten gate then heldTo rowVerdict eachPlace tailVerdict rateSumVerdict tableVerdict roundedUp finish finishVerdict admissionVerdict accountsHold sound placeVerdict opening noState startVerdict start next fieldRead rowRead itemsRead placesRead numbersRead lastVerdict settled readTable tableNumbers tableBytes writeVerdict writeTable figuresVerdict figures inputVerdict leadOf leadVerdict leadAsked slotsState slotsLog slotsVerdict runVerdict run eligible later firstEligible served passed after grantOf advanced withCount withPost done ruleVerdict called callOf callsOf madeCalls answerWords writtenOver callsFrom continued replay toPlace padded rowsOf tableOf stateOf standsAt waitsThroughout reply tableT tableTShort tableRates tableBurst tableDenominator tableFive tableLate threeEach logNine lateCalls bytesT benchRows tableFirst tableSecond tablePastTwo tablePastLast tableLargest tableBlocked limitRows wideRows orderRows stateRows ruleRows replayRows tableLong bytesLong tableFull bytesPlaces tablePast tableWide old marked ratesT burstsT needsT withinsT single unwritten unread numberRows takeRows lendRows readRows writeRows refusedWriteRows changedWriteRows orderedWriteRows startT unsoundT startFull startThree startLast checkRows runRows leadRows figureRows digitsOf decimal spaced line header endLine refusedLine slotLine posted played slotTold slotStep step startRead stateRead begun headed firstStep texts listing headerText listingRows formerFinish formerFinishVerdict formerVerdict tableThirds tableFaster tableTens tableHigh finishRows bind without needHolds lastHolding filledUp order listedVerdict orderRead orderBytes tableThree tableBasin tableGuessed tableAlike withinsRising withinsFalling patient greedy tableWhole searchRows bytesGuessed searchBytesRows named follows chainTo chainFigure nameVerdict circleVerdict followingVerdict chainVerdict chain placesFrom allInOne chainRows circleRows absentRows tableDisplay displayCalls displayRows carry paired tableOneMore bytesOneMore wideTableRows oldOf oldT oldWith oldPast atLast oldFull basinCalls basinBefore basinLog basinLast carryRows sideRows oldUnsoundRows
+unfolding total joined every upTo Runs.end Runs.answers lastGroup combined laterGroups numberOf groupsOf numberBytes numberWritten gate then heldTo fieldsVerdict eachPlace tailVerdict rateSumVerdict needFits needFitsVerdict offeredRowVerdict verdictBy roundedUp finish finishVerdict admissionVerdict accountsHold sound placeVerdict opening noState startVerdict start next fieldRead rowFieldsRead rowRead itemsRead placesBy numbersBy lastVerdict settled readTable tableNumbers tableBytes writeVerdict writeTable figuresVerdict figures inputVerdict leadOf leadVerdict leadAsked slotsState slotsLog slotsVerdict runVerdict run eligible later firstEligible served passed after grantOf advanced withCount withPost done ruleVerdict called callOf callsOf madeCalls answerWords writtenOver callsFrom continued replay toPlace padded rowsOf tableOf stateOf standsAt waitsThroughout reply tableT tableTShort tableRates tableBurst tableDenominator tableFive tableLate threeEach logNine lateCalls bytesT benchRows tableFirst tableSecond tablePastTwo tablePastLast tableLargest tableBlocked limitRows wideRows orderRows stateRows ruleRows replayRows tableLong bytesLong tableFull bytesPlaces tablePast tableWide old marked ratesT burstsT needsT withinsT single unwritten unread numberRows takeRows lendRows readRows writeRows refusedWriteRows changedWriteRows orderedWriteRows startT unsoundT startFull startThree startLast checkRows runRows leadRows figureRows digitsOf decimal spaced line header endLine refusedLine slotLine posted played slotTold slotStep step startRead stateRead begun headed firstStep texts listing headerText listingRows formerFinish formerFinishVerdict formerVerdict tableThirds tableFaster tableTens tableHigh finishRows bind without needHolds lastHolding filledUp order listedVerdict orderRead orderBytes tableThree tableBasin tableGuessed tableAlike withinsRising withinsFalling patient greedy tableWhole searchRows bytesGuessed searchBytesRows named follows chainTo chainFigure nameVerdict circleVerdict followingVerdict chainVerdict chain placesFrom allInOne chainRows circleRows absentRows tableDisplay displayCalls displayRows carry paired tableOneMore bytesOneMore wideTableRows oldOf oldT oldWith oldPast atLast oldFull basinCalls basinBefore basinLog basinLast carryRows sideRows oldUnsoundRows tableTwo tableLastPair tableBasinWith needRows needOrderRows needBytesRows tableThrice thrice needServedRows
 all-pass = refl

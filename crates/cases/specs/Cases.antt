@@ -10,9 +10,10 @@ use Rattle.cases.specs.ListingRows.{listingRows}
 use Rattle.cases.specs.RequestRows.{finishRows, searchRows, searchBytesRows}
 use Rattle.cases.specs.ChainRows.{chainRows, circleRows, absentRows, displayRows}
 use Rattle.cases.specs.CarryRows.{wideTableRows, carryRows, sideRows, oldUnsoundRows}
+use Rattle.cases.specs.NeedRows.{needRows, needOrderRows, needBytesRows, needServedRows}
 
 abbrev pub rows : List Row
-rows = benchRows ++ limitRows ++ wideRows ++ orderRows ++ stateRows ++ ruleRows ++ replayRows ++ numberRows ++ takeRows ++ lendRows ++ readRows ++ writeRows ++ refusedWriteRows ++ changedWriteRows ++ orderedWriteRows ++ checkRows ++ runRows ++ leadRows ++ figureRows ++ listingRows ++ finishRows ++ searchRows ++ searchBytesRows ++ chainRows ++ circleRows ++ absentRows ++ displayRows ++ wideTableRows ++ carryRows ++ sideRows ++ oldUnsoundRows
+rows = benchRows ++ limitRows ++ wideRows ++ orderRows ++ stateRows ++ ruleRows ++ replayRows ++ numberRows ++ takeRows ++ lendRows ++ readRows ++ writeRows ++ refusedWriteRows ++ changedWriteRows ++ orderedWriteRows ++ checkRows ++ runRows ++ leadRows ++ figureRows ++ listingRows ++ finishRows ++ searchRows ++ searchBytesRows ++ chainRows ++ circleRows ++ absentRows ++ displayRows ++ wideTableRows ++ carryRows ++ sideRows ++ oldUnsoundRows ++ needRows ++ needOrderRows ++ needBytesRows ++ needServedRows
 
 abbrev pub All-pass : Type 0
 All-pass = map (λ r. reply (r .asked)) rows ≡ map (λ r. r .written) rows

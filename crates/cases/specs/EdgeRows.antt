@@ -45,7 +45,8 @@ limitRows =
     ∷ record { asked = admission (tableSecond (row 1 16777216 1 7)); written = found faultless }
     ∷ record { asked = admission (tableSecond (row 1 4 0 7)); written = found (fault (refusalAt 5 1)) }
     ∷ record { asked = admission (tableSecond (row 1 4 256 1027)); written = found (fault (refusalAt 5 1)) }
-    ∷ record { asked = admission (tableSecond (row 1 4 255 1023)); written = found faultless }
+    ∷ record { asked = admission (tableSecond (row 1 4 255 1023)); written = found (fault (refusalAt 17 1)) }
+    ∷ record { asked = admission (tableSecond (row 1 1020 255 1023)); written = found faultless }
     ∷ record { asked = admission (tableSecond (row 1 4 1 0)); written = found (fault (refusalAt 5 1)) }
     ∷ record { asked = admission (tableSecond (row 1 4 1 1073741825)); written = found (fault (refusalAt 5 1)) }
     ∷ record { asked = admission (tableSecond (row 1 4 1 1073741824)); written = found faultless }

@@ -8,4 +8,5 @@ pub mod ListingRows
 pub mod RequestRows
 pub mod ChainRows
 pub mod CarryRows
+pub mod NeedRows
 pub mod Cases

@@ -12,9 +12,9 @@ use Rattle.table_bytes.specs.Writing as writing
 use Rattle.cases.specs.Rows.{row, table, allZero, Row, reading, admission, formerAdmission, askingFigures, bothFinishes, ordering, orderingBytes, after, read-as, written-as, found, told-figures, finished, ordered-as, rowsOf}
 use Rattle.cases.specs.BenchRows.{tableT, tableTShort, tableFive}
 
--- request 1: case 11's table with a rate of 3 and a need of two transfers at place 1
-unfoldable pub tableThirds : ℕ → Table
-tableThirds within = table 5 2 (row 1 6 1 5 ∷ row 3 5 2 within ∷ [])
+-- request 1: case 11's table with a rate of 3, this burst and a need of two transfers at place 1
+unfoldable pub tableThirds : (burst within : ℕ) → Table
+tableThirds burst within = table 5 2 (row 1 6 1 5 ∷ row 3 burst 2 within ∷ [])
 
 -- T with a rate of 3 at place 1
 unfoldable pub tableFaster : Table
@@ -24,9 +24,9 @@ tableFaster = table 4 2 (row 1 8 1 4 ∷ row 3 4 1 4 ∷ [])
 unfoldable pub tableTens : Table
 tableTens = table 10 3 (row 1 10 1 10 ∷ row 2 26 1 7 ∷ row 4 10 1 8 ∷ [])
 
--- the largest D, burst and j, so that the sum is above 32 bits before it is divided
-unfoldable pub tableHigh : Table
-tableHigh = table 65535 2 (row 1 16777216 1 65535 ∷ row 65534 65535 255 512 ∷ [])
+-- the largest D, burst and j, so that the sum is above 32 bits before it is divided; and this burst at place 1
+unfoldable pub tableHigh : (burst : ℕ) → Table
+tableHigh burst = table 65535 2 (row 1 16777216 1 65535 ∷ row 65534 burst 255 512 ∷ [])
 
 unfoldable pub finishRows : List Row
 finishRows =
@@ -42,19 +42,23 @@ finishRows =
     ∷ record { asked = bothFinishes (tableFive 4) 1 3; written = finished 9 10 }
     ∷ record { asked = askingFigures (after (tableFive 4) 0 []) 1 3; written = told-figures (asked.figured 2 9) }
     -- here two transfers differ, and one and three do not: 6/4 + 10/3 is 29/6, so 5, and was 2 + 4 = 6
-    ∷ record { asked = bothFinishes (tableThirds 5) 1 1; written = finished 4 4 }
-    ∷ record { asked = bothFinishes (tableThirds 5) 1 2; written = finished 5 6 }
-    ∷ record { asked = bothFinishes (tableThirds 5) 1 3; written = finished 7 7 }
-    ∷ record { asked = admission (tableThirds 5); written = found faultless }
-    ∷ record { asked = admission (tableThirds 4); written = found (fault (refusalAt 7 1)) }
+    ∷ record { asked = bothFinishes (tableThirds 5 5) 1 1; written = finished 4 4 }
+    ∷ record { asked = bothFinishes (tableThirds 5 5) 1 2; written = finished 5 6 }
+    ∷ record { asked = bothFinishes (tableThirds 5 5) 1 3; written = finished 7 7 }
+    ∷ record { asked = admission (tableThirds 10 5); written = found faultless }
+    ∷ record { asked = admission (tableThirds 10 4); written = found (fault (refusalAt 7 1)) }
+    -- by request 6 two transfers do not fit a burst of one, whatever their L
+    ∷ record { asked = admission (tableThirds 5 5); written = found (fault (refusalAt 17 1)) }
+    ∷ record { asked = admission (tableThirds 5 4); written = found (fault (refusalAt 17 1)) }
     -- thirds of slots: 8/3 + 4/3 = 4, and was 3 + 2 = 5
     ∷ record { asked = bothFinishes tableFaster 1 1; written = finished 4 5 }
     -- two places above: 36/7 + 10/4 is 107/14, so 8, and was 6 + 3 = 9
     ∷ record { asked = bothFinishes tableTens 2 1; written = finished 8 9 }
     ∷ record { asked = admission tableTens; written = found faultless }
     -- 16,777,216/65,534 + 255 × 65,535/65,534 is 511 and a little, so 512, and was 257 + 256 = 513
-    ∷ record { asked = bothFinishes tableHigh 1 255; written = finished 512 513 }
-    ∷ record { asked = admission tableHigh; written = found faultless }
+    ∷ record { asked = bothFinishes (tableHigh 65535) 1 255; written = finished 512 513 }
+    ∷ record { asked = admission (tableHigh 16711425); written = found faultless }
+    ∷ record { asked = admission (tableHigh 65535); written = found (fault (refusalAt 17 1)) }
     -- in T they agree: there is no wait at place 0, and the rates divide D; T was accepted too, and refused 7 with place 1's L = 6
     ∷ record { asked = bothFinishes tableT 0 1; written = finished 4 4 }
     ∷ record { asked = bothFinishes tableT 1 1; written = finished 7 7 }
@@ -122,8 +126,13 @@ searchRows =
     }
     -- four of which the second goes to place 3, the first to place 2 and the fourth to place 1, though other orders pass
     ∷ record {
+      asked = ordering (table 8 4 (row 2 16 1 11 ∷ row 1 8 1 22 ∷ row 1 16 2 19 ∷ row 2 8 1 7 ∷ []));
+      written = ordered-as accepted (table 8 4 (row 1 16 2 19 ∷ row 2 8 1 7 ∷ row 2 16 1 11 ∷ row 1 8 1 22 ∷ []));
+    }
+    -- by request 6 no order is looked for where a need does not fit, here the third's
+    ∷ record {
       asked = ordering (table 8 4 (row 2 16 1 11 ∷ row 1 8 1 19 ∷ row 1 9 2 19 ∷ row 2 8 1 7 ∷ []));
-      written = ordered-as accepted (table 8 4 (row 1 9 2 19 ∷ row 2 8 1 7 ∷ row 2 16 1 11 ∷ row 1 8 1 19 ∷ []));
+      written = ordered-as (refused (refusalAt 17 2)) allZero;
     }
     -- the fourth can stand at place 0 alone; the others stay as they are listed
     ∷ record {

@@ -1,5 +1,5 @@
 -- What a row asks, what it is told, and the one evaluator, which runs the definitions that the contracts cite, parts of them, and the
--- finish figure as it was before request 1.
+-- finish figure and admission as they were before request 1.
 use mathlib.Core.Bool.{Bool, true, _&&_}
 use mathlib.Core.List.{List, [], _∷_, _++_, map}
 use Prim.Native.Nat.{ℕ, zero, suc, _-_, _*_}

@@ -1,21 +1,21 @@
 -- Proves FinishFigure: two quotients rounded up one by one cover their sum, and pass it by less than two. Assumes nothing.
-use mathlib.Core.Path.{_≡_}
+use mathlib.Core.Path.{_≡_, ap, _∙_}
 use Prim.Native.Nat.{ℕ, _+_, _*_, _≤_, _<_}
 use native.Mathlib.Nat.{mul-le-mul, mul-le-mul-left, zero-add}
 use native.Mathlib.Decide.{decLe}
 use native.Mathlib.Omega.{arith}
 use borrow.Author.Tests.{leb-true, le-leb}
 use lib.ListN.{length, length-take}
-use Rattle.terms.specs.Table.{Table, requestorsOf, requestorAt, tableVerdict}
+use Rattle.terms.specs.Table.{Table, requestorsOf, requestorAt, needsFitVerdict, tableVerdict}
 use Rattle.terms.specs.Figures.{roundedUp, burstsAbove, rateLeft, waitOf, finishOf, finish}
 use Rattle.terms.specs.Refusals.{faultless, then}
 use Rattle.terms.specs.Start.{startVerdict, start}
-use Rattle.terms.proofs.Checks.{gate-open, then-open, gate-passed, each-place-at, fair, admits}
+use Rattle.terms.proofs.Checks.{gate-open, then-open, then-none, gate-passed, each-place-at, fair, finishes-pass, admission-left}
 use Rattle.terms.proofs.Figures.{rounded-up-covers, rounded-up-tight, finish-covers, finish-least, finish-most}
 use Rattle.terms.proofs.Above.{above}
 use Rattle.terms.proofs.Sound.{row-at}
 use Rattle.guarantees.proofs.CreditSums.{rate-left}
-use Rattle.guarantees.specs.FinishFigure.{Figure-is-least, Figure-at-most, formerFinish, formerFinishVerdict, formerFinishesVerdict, formerVerdict, WithinOneSlot, Figure-within-one-slot, Still-admitted, No-basin-turned-away}
+use Rattle.guarantees.specs.FinishFigure.{Figure-is-least, Figure-at-most, formerFinish, formerFinishVerdict, formerFinishesVerdict, formerVerdict, WithinOneSlot, Figure-within-one-slot, Only-seventeen-is-new, No-fitting-basin-turned-away}
 
 -- of the figures' parts
 parts-within : (d B R n j : ℕ) → 1 ≤ R → 1 ≤ n → WithinOneSlot (finishOf d B R n j) (waitOf B R + roundedUp (j * d) n)
@@ -69,21 +69,19 @@ former-need t e p h =
     let here = each-place-at (formerFinishVerdict (t .denominator) (requestorsOf t)) 0 (requestorsOf t) e p h in
     leb-true _ _ (gate-open _ _ _ (rw (zero-add p) at here) .0)
 
-pub still-admitted : Still-admitted
+pub only-seventeen-is-new : Only-seventeen-is-new
 unfolding formerVerdict
-still-admitted limit t rows e =
+only-seventeen-is-new limit t rows e =
     let (passes, finishes) = then-open _ _ e in
-    admits limit t (record {
-      passes = passes;
-      need = λ p h.
-          let place : p < t .count = omega (arith, length-take (t .count) (t .requestors)) in
-          let figure = figure-within-one-slot limit t rows passes p (requestorAt p (requestorsOf t) .need .0) place in
-          omega (arith, former-need t finishes p h, figure .not-above);
-    })
+    let held = finishes-pass t (λ p h.
+    let place : p < t .count = omega (arith, length-take (t .count) (t .requestors)) in
+    let figure = figure-within-one-slot limit t rows passes p (requestorAt p (requestorsOf t) .need .0) place in
+    omega (arith, former-need t finishes p h, figure .not-above)) in
+    admission-left limit t passes ∙ ap (then (needsFitVerdict t)) held ∙ then-none (needsFitVerdict t)
 
-pub no-basin-turned-away : No-basin-turned-away
+pub no-fitting-basin-turned-away : No-fitting-basin-turned-away
 unfolding startVerdict start then
-no-basin-turned-away limit t first rows e small = record {
+no-fitting-basin-turned-away limit t first rows e fits small = record {
   rows = rows;
-  answer = rw (still-admitted limit t rows e, gate-passed _ _ _ (le-leb _ _ small));
+  answer = rw (only-seventeen-is-new limit t rows e, fits, gate-passed _ _ _ (le-leb _ _ small));
 }

@@ -11,6 +11,7 @@ pub mod Demand3
 pub mod Conservation
 pub mod Need
 pub mod FinishFigure
+pub mod NeedFits
 pub mod Chains
 pub mod Orders
 pub mod Isolation

@@ -1,13 +1,13 @@
 -- Document 02, request 1: the finish figure is the least number of slots that covers the wait and the transfers, both before any
--- rounding. The former figure rounded the two up one by one, and was the same or one slot more. So every table that was accepted is
--- accepted, and starts: no installed basin is turned away.
+-- rounding. The former figure rounded the two up one by one, and was the same or one slot more. So the figure turns no installed basin away:
+-- of a table that was accepted 17 alone can be found, which request 6 added, and if it is not, the table starts.
 use mathlib.Core.Path.{_≡_}
 use mathlib.Core.List.{List}
 use Prim.Native.Nat.{ℕ, _+_, _*_, _≤_, _<_}
 use lib.Dec.{leb}
 use lib.ListN.{length}
 use Rattle.terms.specs.declared.place.Requestor.{Requestor}
-use Rattle.terms.specs.Table.{Table, requestorsOf, requestorAt, eachPlace, tableVerdict}
+use Rattle.terms.specs.Table.{Table, requestorsOf, requestorAt, fieldsVerdict, eachPlace, needsFitVerdict, verdictBy, tableVerdict}
 use Rattle.terms.specs.Limits.{maxNeed, maxSlot}
 use Rattle.terms.specs.Refusals.{Verdict, faultless, refusalAt, gate, then}
 use Rattle.terms.specs.Figures.{roundedUp, burstsAbove, rateLeft, wait, finish, mostFinish, admissionVerdict}
@@ -47,9 +47,9 @@ formerFinishVerdict d rs p r = gate (refusalAt 7 p) (leb (formerFinish d rs p (r
 abbrev pub formerFinishesVerdict : Table → Verdict
 formerFinishesVerdict t = eachPlace (formerFinishVerdict (t .denominator) (requestorsOf t)) 0 (requestorsOf t)
 
--- the checks of a table given as numbers with it
+-- the checks of a table given as numbers with it, before request 6
 unfoldable pub formerVerdict : ℕ → Table → Verdict
-formerVerdict limit t = then (tableVerdict limit t) (formerFinishesVerdict t)
+formerVerdict limit t = then (verdictBy fieldsVerdict limit t) (formerFinishesVerdict t)
 
 pub record WithinOneSlot (figure former : ℕ) : Type 0 where
   pub not-above : figure ≤ former
@@ -62,11 +62,11 @@ Figure-within-one-slot = (limit : ℕ) (t : Table) → length (t .requestors) �
 
 -- ---- tables that stood
 
--- what was accepted is accepted
-abbrev pub Still-admitted : Type 0
-Still-admitted = (limit : ℕ) (t : Table) → length (t .requestors) ≡ limit → formerVerdict limit t ≡ faultless → admissionVerdict limit t ≡ faultless
+-- what was accepted is accepted, but for a need that is larger than its burst
+abbrev pub Only-seventeen-is-new : Type 0
+Only-seventeen-is-new = (limit : ℕ) (t : Table) → length (t .requestors) ≡ limit → formerVerdict limit t ≡ faultless → admissionVerdict limit t ≡ needsFitVerdict t
 
--- and starts, at every slot number that a start takes
-abbrev pub No-basin-turned-away : Type 0
-No-basin-turned-away = (limit : ℕ) (t : Table) (first : ℕ) → length (t .requestors) ≡ limit → formerVerdict limit t ≡ faultless → first ≤ maxSlot
-    → Accepted limit t first
+-- and without one it starts, at every slot number that a start takes
+abbrev pub No-fitting-basin-turned-away : Type 0
+No-fitting-basin-turned-away = (limit : ℕ) (t : Table) (first : ℕ) → length (t .requestors) ≡ limit → formerVerdict limit t ≡ faultless → needsFitVerdict t ≡ faultless
+    → first ≤ maxSlot → Accepted limit t first

@@ -6,6 +6,7 @@ pub mod Demand3
 pub mod CreditSums
 pub mod Need
 pub mod FinishFigure
+pub mod NeedFits
 pub mod Chains
 pub mod SharperFloor
 pub mod Conservation

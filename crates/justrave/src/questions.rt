@@ -6,7 +6,7 @@ use asking::figures::figures_words;
 use asking::lead::lead_words;
 use asking::look::account_words;
 use asking::look::standing_words;
-use asking::write::write_state;
+use asking::write::admit_and_write;
 use chains::chain::chain_words;
 use layout::words::room_of;
 use outcomes::codes::WRONG_LENGTH;
@@ -90,7 +90,7 @@ pub extern "C" fn justrave_lead(state: &[u64], place: usize, log: &[u8], answer:
     }
 }
 
-// The table's bytes into the buffer; the answer is how many. Refused: 255, 23, then the writer's, 7 and 14.
+// The table's bytes into the buffer; the answer is how many. Refused: 255, 23, then the writer's, 17, 7 and 14.
 #[no_mangle]
 pub extern "C" fn justrave_write(state: &[u64], buffer: &mut [u8], answer: &mut [u64]) -> u64
     ensures { λ r. ⌜ record { buffer = now (buffer .exit); answer = now (answer .exit); outcome = r } ≡ wrote maxPlaces (now (state .entry)) (now (buffer .entry)) (now (answer .entry)) ⌝ }
@@ -101,7 +101,7 @@ pub extern "C" fn justrave_write(state: &[u64], buffer: &mut [u8], answer: &mut 
     if !is_sound(state) {
         return refusal_code(Cause::State(StateRefusal::Unsound));
     }
-    let told = write_state(state, buffer);
+    let told = admit_and_write(state, buffer);
     match told {
         WriteAnswer::Wrote(bytes) => {
             answer[0] = bytes as u64;

@@ -15,7 +15,8 @@ ghost use mathlib.Core.Path.{_≡_};
 ghost use Rattle.terms.specs.Limits.{maxPlaces, oldPlaces};
 ghost use Rattle.justrave.specs.Exported.{started, startedOf, carriedOver};
 
-// The state of a table's bytes and a first slot number. Refused: 255; 8, 9 and 1 to 5 number by number; 10, 6, 7, 12.
+// The state of a table's bytes and a first slot number. Refused: 255; 8, 9 and 1 to 5 number by number, 17 behind each
+// place; 10, 6, 7, 12.
 #[no_mangle]
 pub extern "C" fn justrave_start(table: &[u8], first: u64, state: &mut [u64]) -> u64
     ensures { λ r. ⌜ record { words = now (state .exit); outcome = r } ≡ started maxPlaces (now (table .entry)) first (now (state .entry)) ⌝ }
@@ -30,7 +31,7 @@ pub extern "C" fn justrave_start(table: &[u8], first: u64, state: &mut [u64]) ->
     }
 }
 
-// The same for a table given as numbers, for as many places as the words have room. Refused: 255, 1 to 7, 12.
+// The same for a table given as numbers, for as many places as the words have room. Refused: 255, 1 to 7, 17, 12.
 #[no_mangle]
 pub extern "C" fn justrave_start_numbers(numbers: &[u32], first: u64, state: &mut [u64]) -> u64
     ensures { λ r. ⌜ record { words = now (state .exit); outcome = r } ≡ startedOf maxPlaces (now (numbers .entry)) first (now (state .entry)) ⌝ }

@@ -131,7 +131,7 @@ pub fn step(s: Arbiter, rest: &[u8], out: &mut [u8]) -> StepResult
     play_slot(s, rest, out)
 }
 
-// The header, and behind it the refusal's line if the input begins with a fault: 13, 8, 9, and the table's 1 to 7 and 10.
+// The header, and behind it the refusal's line if the input begins with a fault: 13, 8, 9, and the table's 1 to 7, 10 and 17.
 pub fn first_step(input: &[u8], out: &mut [u8]) -> StepResult
     ensures { λ r. ⌜ outcomeOf (now (input .entry)) r (now (out .exit)) ≡ inBuffer maxPlaces (firstStep maxPlaces (now (input .entry))) (noState maxPlaces) (now (out .entry)) ⌝ }
     ensures took { λ r. ⌜ takenBy (r .told) ≤ length (now (input .entry)) ⌝ }

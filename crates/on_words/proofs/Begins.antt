@@ -18,8 +18,8 @@ use Rattle.table_bytes.specs.Reading.{readTable}
 use Rattle.table_bytes.proofs.Opened.{rows-taken, table-open, Ends, turned-down, carried-out, read-ends}
 use Rattle.starts.specs.Starts.{begun}
 use Rattle.outcomes.specs.Outcomes.{answerCode}
-use Rattle.outcomes.specs.Places.{Told}
-use Rattle.outcomes.proofs.Places.{known-any, code-apart, start-names-below, table-start-names-below}
+use Rattle.outcomes.specs.Places.{ofATable, ToldOf}
+use Rattle.outcomes.proofs.Places.{table-any, code-apart, start-names-below, table-start-names-below}
 use Rattle.guarantees.specs.Counts.{Accepted}
 use Rattle.guarantees.proofs.Start.{start-ends}
 use Rattle.guarantees.proofs.Demand3.{demand-3}
@@ -33,8 +33,8 @@ unfolding leaves
 left true words made e go = go e refl
 left false words made e go = absurd (omega arith)
 
-no-refusal : {X : Type 0} (limit : ℕ) (a : Answer) (r : Refusal) → a ≡ refused r → Told limit r → answerCode a ≡ 0 → X
-no-refusal limit a r e told f = absurd (code-apart limit r (known-any told) .0 (sym (ap answerCode e) ∙ f))
+no-refusal : {X : Type 0} (limit : ℕ) (a : Answer) (r : Refusal) → a ≡ refused r → ToldOf ofATable limit r → answerCode a ≡ 0 → X
+no-refusal limit a r e told f = absurd (code-apart limit r (table-any told) .0 (sym (ap answerCode e) ∙ f))
 
 -- a start of a table
 table-begins : (limit : ℕ) (t : Table) (first : ℕ) (words : List ℕ) → length (t .requestors) ≡ limit → answerCode (start limit t first .answer) ≡ 0

@@ -21,7 +21,7 @@ use Rattle.carrying.specs.Fits.{fitsInto}
 use Rattle.carrying.proofs.Fits.{Fit, fit}
 use Rattle.outcomes.specs.Outcomes.{refusalCode, answerCode, wrongLength}
 use Rattle.outcomes.specs.Places.{ToldOf, ofAnyCall}
-use Rattle.outcomes.proofs.Places.{known-any, carry-names-below}
+use Rattle.outcomes.proofs.Places.{state-any, carry-names-below}
 use Rattle.justrave.specs.Exported.{leaves, carriedOver}
 use Rattle.on_words.specs.Room.{more}
 use Rattle.on_words.specs.Carried.{Carry-lengths, Carry-broken, Carry-refused, Carry-accepted, Carried-in-a-row}
@@ -31,7 +31,7 @@ use Rattle.on_words.proofs.Room.{any-room, any-room-in-a-row}
 
 carry-ends : (old new : ℕ) (o : OldState) → Ends new (answerCode (carry old new o .answer)) (carry old new o .state ≡ noState new)
 unfolding carry
-carry-ends old new o = by (carryVerdict old o) (λ r e. known-any (carry-names-below old new o r e .1))
+carry-ends old new o = by (carryVerdict old o) (λ r e. state-any (carry-names-below old new o r e .1))
   where
     made : Verdict → Result State Answer
     made v = resolve v (record { state = longer (new - old) (asState o); answer = accepted }) (turnedDown new)

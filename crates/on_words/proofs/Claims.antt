@@ -43,7 +43,7 @@ use Rattle.starts.specs.Starts.{begun}
 use Rattle.asking.specs.Look as look
 use Rattle.outcomes.specs.Outcomes.{refusalCode, answerCode, wrongLength}
 use Rattle.outcomes.specs.Places.{ofAnyCall, ToldOf}
-use Rattle.outcomes.proofs.Places.{known-any, chain-any, code-apart, start-names-below, table-start-names-below, calls-name-below, runs-name-below, leads-name-below, figures-name-below, chains-name-below, write-names-below, looks-name-below, standings-name-below}
+use Rattle.outcomes.proofs.Places.{table-any, state-any, chain-any, code-apart, start-names-below, table-start-names-below, calls-name-below, runs-name-below, leads-name-below, figures-name-below, chains-name-below, write-names-below, looks-name-below, standings-name-below}
 use Rattle.justrave.specs.Exported.{onState, Stated, posted, slotWords, Slotted, slotted, Ran, ran, leaves, started, startedOf, Figured, figuresTold, figured, chainTold, chained, lookTold, accountTold, stands, standingTold, leadTold, Led, led, Wrote, writeTold, wrote}
 use Rattle.on_words.specs.Claims.{Fits, Post-by-value, Start-by-value, Starts-agree, Slot-by-value, Run-by-value, Figures-by-value, Chain-by-value, Account-by-value, Standing-by-value, Lead-by-value, Write-by-value, lentCall, lastTold, In-a-row, Exactly-255, Lengths, Wrong-length, Broken, Broken-words, Start-shaped, Start-of-numbers-shaped, Refused, Clears, Post-refused, Slot-refused, Run-refused, Figures-refused, Chain-refused, Account-refused, Standing-refused, Lead-refused, Write-refused, Start-refused, Start-of-numbers-refused}
 
@@ -220,7 +220,7 @@ module _ {room outcome : ℕ} {Stands : Type 0} where
 pub written-ends : (room : ℕ) (t : Table) (buffer old : List ℕ)
     → let d = writeTold old (writing.writeTable room t buffer) in Ends room (d .outcome) ((d .buffer ≡ buffer) × (d .answer ≡ old))
 unfolding writing.writeTable
-written-ends room t buffer old = by (writing.writeVerdict room t (length buffer)) (λ r e. known-any (write-names-below room t buffer r e))
+written-ends room t buffer old = by (writing.writeVerdict room t (length buffer)) (λ r e. table-any (write-names-below room t buffer r e))
   where
     made : Verdict → writing.TableWritten
     made v =
@@ -250,11 +250,11 @@ module _ (room : ℕ) (s : State) where
 
   call-ends : (c : Call) → Ends room (answerCode (called room s c .answer)) (Stands (called room s c))
   unfolding called
-  call-ends c = outcome-ends (gate (refusal 23) (sound room s) (ruleVerdict s c)) c (λ r e. known-any (calls-name-below room s c r e))
+  call-ends c = outcome-ends (gate (refusal 23) (sound room s) (ruleVerdict s c)) c (λ r e. state-any (calls-name-below room s c r e))
 
   run-ends : (log : List ℕ) → Ends room (answerCode (run room s log .answer)) ((run room s log .state ≡ s) × (run room s log .log ≡ log))
   unfolding run
-  run-ends log = by (runVerdict room s (length log)) (λ r e. known-any (runs-name-below room s log r e))
+  run-ends log = by (runVerdict room s (length log)) (λ r e. state-any (runs-name-below room s log r e))
     where
       made : Verdict → Outcome
       made v =
@@ -267,7 +267,7 @@ module _ (room : ℕ) (s : State) where
       by (fault r) t = turned r (t r refl) refl (refl, refl)
 
   figures-ends : (p j : ℕ) (old : List ℕ) → let d = figuresTold old (asked.figures room s p j) in Ends room (d .outcome) (d .answer ≡ old)
-  figures-ends p j old = by (asked.figures room s p j) (λ r e. known-any (figures-name-below room s p j r e))
+  figures-ends p j old = by (asked.figures room s p j) (λ r e. state-any (figures-name-below room s p j r e))
     where
       by : (a : asked.FiguresAnswer) → ((r : Refusal) → a ≡ asked.refused r → ToldOf ofAnyCall room r) → Ends room (figuresTold old a .outcome) (figuresTold old a .answer ≡ old)
       by (asked.figured wait finish) t = went refl
@@ -281,21 +281,21 @@ module _ (room : ℕ) (s : State) where
       by (chains.refused r) t = turned r (t r refl) refl refl
 
   account-ends : (p : ℕ) (old : List ℕ) → let d = lookTold old (look.accountAsked room s p) in Ends room (d .outcome) (d .answer ≡ old)
-  account-ends p old = by (look.accountAsked room s p) (λ r e. known-any (looks-name-below room s p r e))
+  account-ends p old = by (look.accountAsked room s p) (λ r e. state-any (looks-name-below room s p r e))
     where
       by : (a : look.Told Account) → ((r : Refusal) → a ≡ look.refused r → ToldOf ofAnyCall room r) → Ends room (lookTold old a .outcome) (lookTold old a .answer ≡ old)
       by (look.told x) t = went refl
       by (look.refused r) t = turned r (t r refl) refl refl
 
   standing-ends : (old : List ℕ) → let d = stands old (look.standing room s) in Ends room (d .outcome) (d .answer ≡ old)
-  standing-ends old = by (look.standing room s) (λ r e. known-any (standings-name-below room s r e))
+  standing-ends old = by (look.standing room s) (λ r e. state-any (standings-name-below room s r e))
     where
       by : (a : look.Told look.Standing) → ((r : Refusal) → a ≡ look.refused r → ToldOf ofAnyCall room r) → Ends room (stands old a .outcome) (stands old a .answer ≡ old)
       by (look.told x) t = went refl
       by (look.refused r) t = turned r (t r refl) refl refl
 
   lead-ends : (p : ℕ) (log : List ℕ) (old : List ℤ) → let d = leadTold old (leads.leadAsked room s p log) in Ends room (d .outcome) (d .answer ≡ old)
-  lead-ends p log old = by (leads.leadAsked room s p log) (λ r e. known-any (leads-name-below room s p log r e))
+  lead-ends p log old = by (leads.leadAsked room s p log) (λ r e. state-any (leads-name-below room s p log r e))
     where
       by : (a : leads.LeadAnswer) → ((r : Refusal) → a ≡ leads.refused r → ToldOf ofAnyCall room r) → Ends room (leadTold old a .outcome) (leadTold old a .answer ≡ old)
       by (leads.lead x) t = went refl
@@ -396,7 +396,7 @@ write-refused most words buffer old =
 
 start-ends : (room : ℕ) (t : Table) (first : ℕ) → Ends room (answerCode (start room t first .answer)) (start room t first .state ≡ noState room)
 unfolding start
-start-ends room t first = by (startVerdict room t first) (λ r e. known-any (table-start-names-below room t first r e))
+start-ends room t first = by (startVerdict room t first) (λ r e. table-any (table-start-names-below room t first r e))
   where
     made : Verdict → Result State Answer
     made v = resolve v (record { state = opening t first; answer = accepted }) (turnedDown room)
@@ -408,7 +408,7 @@ start-ends room t first = by (startVerdict room t first) (λ r e. known-any (tab
 begun-ends : (room : ℕ) (bytes : List ℕ) (first : ℕ)
     → let d = begun room (readTable room bytes) first in Ends room (answerCode (d .answer)) (d .state ≡ noState room)
 unfolding begun
-begun-ends room bytes first = by (readTable room bytes .answer) (λ r e. known-any (start-names-below room bytes first r e))
+begun-ends room bytes first = by (readTable room bytes .answer) (λ r e. table-any (start-names-below room bytes first r e))
   where
     goes-on : Result State Answer
     goes-on = start room (readTable room bytes .table) first

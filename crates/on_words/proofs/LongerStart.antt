@@ -17,7 +17,7 @@ use Rattle.lists.proofs.Sums.{joined-append}
 use Rattle.lists.proofs.Tests.{cases, in-range-true, in-range}
 use Rattle.terms.specs.declared.refusals.Refusal.{Refusal}
 use Rattle.terms.specs.declared.place.Requestor.{Requestor}
-use Rattle.terms.specs.Table.{Table, noRequestor, rowNumbers, tableOf, denominatorBounds, countBounds, heldTo, rateSumVerdict, tableVerdict}
+use Rattle.terms.specs.Table.{Table, noRequestor, rowNumbers, tableOf, denominatorBounds, countBounds, heldTo, rateSumVerdict, verdictBy}
 use Rattle.terms.specs.State.{State, noAccount}
 use Rattle.terms.specs.Refusals.{Verdict, faultless, fault, refusal, gate, then, resolve}
 use Rattle.terms.specs.Answers.{Answer, accepted, granted, idle, refused, unless}
@@ -28,7 +28,7 @@ use Rattle.terms.proofs.Longer.{same-rows, same-admission}
 use Rattle.terms.proofs.Checks.{held-open}
 use Rattle.terms.proofs.Tables.{table-length}
 use Rattle.terms.specs.TableResult.{TableResult, accept, refuse}
-use Rattle.table_bytes.specs.Reading.{Read, read, stop, next, numberRead, fieldRead, rowsRead, placesRead, numbersRead, lastVerdict, settled, readTable}
+use Rattle.table_bytes.specs.Reading.{Read, read, stop, next, numberRead, fieldRead, rowsRead, placesRead, lastVerdict, settled, readTable, placesBy, numbersBy}
 use Rattle.table_bytes.proofs.Accepted.{field-open, rows-open}
 use Rattle.layout.specs.Numbers.{numberCount, rightNumbers, allNumbers, numbersTable}
 use Rattle.layout.proofs.TableNumbers.{numbers-read-back, table-written-back}
@@ -68,7 +68,7 @@ module _ (room extra : ℕ) where
   module _ (t : Table) (rows : length (t .requestors) ≡ room) (first : ℕ) where
     -- N above the room is 2, unless D was refused
     above : room < t .count → (startVerdict room t first ≡ fault (refusal 2) → ⊥) → startVerdict (room + extra) (longerTable extra t) first ≡ startVerdict room t first
-    unfolding startVerdict admissionVerdict tableVerdict
+    unfolding startVerdict admissionVerdict verdictBy
     above over h = let two = count-above room (t .count) over in rw two (two-above (heldTo denominatorBounds (t .denominator)) _ _ _ _ _ (rw two at h))
 
     same-start-verdict : (startVerdict room t first ≡ fault (refusal 2) → ⊥) → startVerdict (room + extra) (longerTable extra t) first ≡ startVerdict room t first
@@ -117,7 +117,7 @@ module _ (room extra : ℕ) where
         rw (ap (λ t. t .requestors) table-longer, same-rows room extra (tableOf room d n rows) (table-length room d n rows few) fits)
 
   places-longer : (d n : ℕ) (bytes : List ℕ) → n ≤ room → settled (room + extra) (placesRead (room + extra) d n bytes) ≡ read-longer (settled room (placesRead room d n bytes))
-  unfolding settled placesRead next
+  unfolding settled placesBy next
   places-longer d n bytes fits = by (rowsRead n d 0 bytes) refl
     where
       by : (x : Read (List Requestor)) → rowsRead n d 0 bytes ≡ x
@@ -142,7 +142,7 @@ module _ (room extra : ℕ) where
           (λ q. absurd (h (rw q)))
 
   same-read : (bytes : List ℕ) → (readTable room bytes .answer ≡ refused (refusal 2) → ⊥) → readTable (room + extra) bytes ≡ read-longer (readTable room bytes)
-  unfolding readTable numbersRead next settled
+  unfolding readTable numbersBy next settled
   same-read bytes h = first (fieldRead denominatorBounds bytes) h
     where
       counted : ℕ → ℕ → Read ℕ → Read Table

@@ -10,7 +10,7 @@ use lib.ListN.{length, take, getD}
 use lib.Seq.{length-take-le}
 use Rattle.lists.proofs.Tests.{cases, true-false}
 use Rattle.terms.specs.Limits.{maxSlot}
-use Rattle.terms.specs.Table.{Table, requestorsOf, tableOf}
+use Rattle.terms.specs.Table.{Table, requestorsOf, tableOf, offeredRowVerdict}
 use Rattle.terms.specs.Refusals.{faultless, gate, then}
 use Rattle.terms.specs.Figures.{admissionVerdict}
 use Rattle.terms.proofs.Checks.{passed, then-open}
@@ -113,7 +113,7 @@ module _ (room extra : ℕ) (u : Table) (long : length (u .requestors) ≡ room 
   line-whole : longerTable extra line ≡ u
   unfolding admissionVerdict
   line-whole =
-      let clear = passed (room + extra) u (then-open _ _ passes .0) .clear in
+      let clear = passed offeredRowVerdict (room + extra) u (then-open _ _ passes .0) .clear in
       sym (table-longer room extra (u .denominator) (u .count) (requestorsOf u) (omega (arith, row-count)))
       ∙ rw long at (table-whole u (omega arith) clear)
 

@@ -9,7 +9,7 @@ use Rattle.lists.specs.Overwriting.{writtenOver}
 use Rattle.lists.specs.Places.{placesFrom}
 use Rattle.groups.specs.Groups.{lastGroup, combined, laterGroups, numberOf, groupsOf, numberBytes}
 use Rattle.terms.specs.Refusals.{gate, then}
-use Rattle.terms.specs.Table.{tableOf, heldTo, rowVerdict, eachPlace, tailVerdict, rateSumVerdict, tableVerdict}
+use Rattle.terms.specs.Table.{tableOf, heldTo, fieldsVerdict, eachPlace, tailVerdict, rateSumVerdict, needFits, needFitsVerdict, offeredRowVerdict, verdictBy}
 use Rattle.terms.specs.Figures.{roundedUp, finish, finishVerdict, admissionVerdict}
 use Rattle.terms.specs.State.{accountsHold, sound, placeVerdict}
 use Rattle.terms.specs.Start.{opening, noState, startVerdict, start}
@@ -18,7 +18,7 @@ use Rattle.terms.specs.Asked.{figuresVerdict, figures}
 use Rattle.terms.specs.Chain.{named, follows, chainTo, chainFigure, nameVerdict, circleVerdict, followingVerdict, chainVerdict, chain}
 use Rattle.terms.specs.Input.{inputVerdict}
 use Rattle.lead_parts.specs.Lead.{leadOf, leadVerdict, leadAsked}
-use Rattle.table_bytes.specs.Reading.{next, fieldRead, rowRead, itemsRead, placesRead, numbersRead, lastVerdict, settled, readTable}
+use Rattle.table_bytes.specs.Reading.{next, fieldRead, rowFieldsRead, rowRead, itemsRead, lastVerdict, settled, readTable, placesBy, numbersBy}
 use Rattle.table_bytes.specs.Writing.{tableNumbers, tableBytes, writeVerdict, writeTable}
 use Rattle.rule.specs.Rule.{eligible, later, firstEligible, served, passed, after}
 use Rattle.rule.specs.Calls.{grantOf, advanced, withCount, withPost, done, ruleVerdict, called}
@@ -33,59 +33,63 @@ use Rattle.ordering.specs.Order.{needHolds, lastHolding, filledUp}
 use Rattle.ordered_bytes.specs.OrderBytes.{listedVerdict, orderRead, orderBytes}
 use Rattle.outcomes.specs.Outcomes.{refusalCode}
 use Rattle.justrave.specs.Exported.{onState, posted, slotted, ran, leaves, started, startedOf, carriedOver, figured, chained, accountTold, standingTold, led, wrote, ordered}
-use Rattle.on_words.specs.Rows.{wordsIn, startRows, numberRows, carryRows, postRows, slotRows, runRows, askedRows, chainRows, writeRows, lookRows, roomRows, orderRows, lengthRows, Pass, All-pass}
+use Rattle.on_words.specs.Rows.{wordsIn, startRows, numberRows, carryRows, postRows, slotRows, runRows, askedRows, chainRows, writeRows, lookRows, roomRows, orderRows, wordsThrice, numbersThrice, needRows, lengthRows, Pass, All-pass}
 
 start-pass : Pass startRows
-unfolding roomOf rightLength placesFrom wordsState stateWords joined paired refusalCode wordsIn total every gate then heldTo rowVerdict eachPlace tailVerdict rateSumVerdict tableVerdict roundedUp finish finishVerdict admissionVerdict tableOf writtenOver opening noState startVerdict start leaves lastGroup combined laterGroups numberOf next fieldRead rowRead itemsRead placesRead numbersRead lastVerdict settled readTable begun started startRows
+unfolding roomOf rightLength placesFrom wordsState stateWords joined paired refusalCode wordsIn total every gate then heldTo fieldsVerdict eachPlace tailVerdict rateSumVerdict needFits needFitsVerdict offeredRowVerdict verdictBy roundedUp finish finishVerdict admissionVerdict tableOf writtenOver opening noState startVerdict start leaves lastGroup combined laterGroups numberOf next fieldRead rowFieldsRead rowRead itemsRead placesBy numbersBy lastVerdict settled readTable begun started startRows
 start-pass = refl
 
 number-pass : Pass numberRows
-unfolding roomOf rightLength placesFrom wordsState stateWords joined paired refusalCode wordsIn total every gate then heldTo rowVerdict eachPlace tailVerdict rateSumVerdict tableVerdict roundedUp finish finishVerdict admissionVerdict tableOf writtenOver opening noState startVerdict start leaves numbersTable startedOf numberRows
+unfolding roomOf rightLength placesFrom wordsState stateWords joined paired refusalCode wordsIn total every gate then heldTo fieldsVerdict eachPlace tailVerdict rateSumVerdict needFits needFitsVerdict offeredRowVerdict verdictBy roundedUp finish finishVerdict admissionVerdict tableOf writtenOver opening noState startVerdict start leaves numbersTable startedOf numberRows
 number-pass = refl
 
 carry-pass : Pass carryRows
-unfolding roomOf rightLength placesFrom wordsState stateWords joined paired refusalCode wordsIn total every gate then heldTo rowVerdict eachPlace tailVerdict rateSumVerdict tableVerdict tableOf writtenOver noState upTo accountsHold sound oldRoomOf oldRightLength fitsInto oldWordsState carry leaves carriedOver carryRows
+unfolding roomOf rightLength placesFrom wordsState stateWords joined paired refusalCode wordsIn total every gate then heldTo fieldsVerdict eachPlace tailVerdict rateSumVerdict needFits needFitsVerdict offeredRowVerdict verdictBy tableOf writtenOver noState upTo accountsHold sound oldRoomOf oldRightLength fitsInto oldWordsState carry leaves carriedOver carryRows
 carry-pass = refl
 
 post-pass : Pass postRows
-unfolding roomOf rightLength placesFrom wordsState stateWords joined paired refusalCode wordsIn total every gate then heldTo rowVerdict eachPlace tailVerdict rateSumVerdict tableVerdict upTo accountsHold sound withCount withPost done ruleVerdict called onState posted postRows
+unfolding roomOf rightLength placesFrom wordsState stateWords joined paired refusalCode wordsIn total every gate then heldTo fieldsVerdict eachPlace tailVerdict rateSumVerdict needFits needFitsVerdict offeredRowVerdict verdictBy upTo accountsHold sound withCount withPost done ruleVerdict called onState posted postRows
 post-pass = refl
 
 slot-pass : Pass slotRows
-unfolding roomOf rightLength placesFrom wordsState stateWords joined paired refusalCode wordsIn total every gate then heldTo rowVerdict eachPlace tailVerdict rateSumVerdict tableVerdict upTo accountsHold sound eligible later firstEligible served passed after grantOf advanced done ruleVerdict called onState slotted slotRows
+unfolding roomOf rightLength placesFrom wordsState stateWords joined paired refusalCode wordsIn total every gate then heldTo fieldsVerdict eachPlace tailVerdict rateSumVerdict needFits needFitsVerdict offeredRowVerdict verdictBy upTo accountsHold sound eligible later firstEligible served passed after grantOf advanced done ruleVerdict called onState slotted slotRows
 slot-pass = refl
 
 run-pass : Pass runRows
-unfolding roomOf rightLength placesFrom wordsState stateWords joined paired refusalCode wordsIn total every gate then heldTo rowVerdict eachPlace tailVerdict rateSumVerdict tableVerdict upTo accountsHold sound eligible later firstEligible served passed after grantOf advanced inputVerdict slotsState slotsLog slotsVerdict runVerdict run onState ran runRows
+unfolding roomOf rightLength placesFrom wordsState stateWords joined paired refusalCode wordsIn total every gate then heldTo fieldsVerdict eachPlace tailVerdict rateSumVerdict needFits needFitsVerdict offeredRowVerdict verdictBy upTo accountsHold sound eligible later firstEligible served passed after grantOf advanced inputVerdict slotsState slotsLog slotsVerdict runVerdict run onState ran runRows
 run-pass = refl
 
 asked-pass : Pass askedRows
-unfolding roomOf rightLength placesFrom wordsState stateWords joined paired refusalCode wordsIn total every gate then heldTo rowVerdict eachPlace tailVerdict rateSumVerdict tableVerdict upTo accountsHold sound roundedUp finish placeVerdict figuresVerdict figures inputVerdict leadOf leadVerdict leadAsked onState figured led askedRows
+unfolding roomOf rightLength placesFrom wordsState stateWords joined paired refusalCode wordsIn total every gate then heldTo fieldsVerdict eachPlace tailVerdict rateSumVerdict needFits needFitsVerdict offeredRowVerdict verdictBy upTo accountsHold sound roundedUp finish placeVerdict figuresVerdict figures inputVerdict leadOf leadVerdict leadAsked onState figured led askedRows
 asked-pass = refl
 
 chain-pass : Pass chainRows
-unfolding roomOf rightLength placesFrom wordsState stateWords joined paired refusalCode wordsIn total every gate then heldTo rowVerdict eachPlace tailVerdict rateSumVerdict tableVerdict upTo accountsHold sound roundedUp finish placeVerdict named follows chainTo chainFigure nameVerdict circleVerdict followingVerdict chainVerdict chain onState chained chainRows
+unfolding roomOf rightLength placesFrom wordsState stateWords joined paired refusalCode wordsIn total every gate then heldTo fieldsVerdict eachPlace tailVerdict rateSumVerdict needFits needFitsVerdict offeredRowVerdict verdictBy upTo accountsHold sound roundedUp finish placeVerdict named follows chainTo chainFigure nameVerdict circleVerdict followingVerdict chainVerdict chain onState chained chainRows
 chain-pass = refl
 
 write-pass : Pass writeRows
-unfolding roomOf rightLength placesFrom wordsState stateWords joined paired refusalCode wordsIn total every gate then heldTo rowVerdict eachPlace tailVerdict rateSumVerdict tableVerdict upTo accountsHold sound roundedUp finish finishVerdict admissionVerdict groupsOf numberBytes writtenOver tableNumbers tableBytes writeVerdict writeTable onState wrote writeRows
+unfolding roomOf rightLength placesFrom wordsState stateWords joined paired refusalCode wordsIn total every gate then heldTo fieldsVerdict eachPlace tailVerdict rateSumVerdict needFits needFitsVerdict offeredRowVerdict verdictBy upTo accountsHold sound roundedUp finish finishVerdict admissionVerdict groupsOf numberBytes writtenOver tableNumbers tableBytes writeVerdict writeTable onState wrote writeRows
 write-pass = refl
 
 look-pass : Pass lookRows
-unfolding roomOf rightLength placesFrom wordsState stateWords joined paired refusalCode wordsIn total every gate then heldTo rowVerdict eachPlace tailVerdict rateSumVerdict tableVerdict upTo accountsHold sound placeVerdict accountAsked standing onState accountTold standingTold lookRows
+unfolding roomOf rightLength placesFrom wordsState stateWords joined paired refusalCode wordsIn total every gate then heldTo fieldsVerdict eachPlace tailVerdict rateSumVerdict needFits needFitsVerdict offeredRowVerdict verdictBy upTo accountsHold sound placeVerdict accountAsked standing onState accountTold standingTold lookRows
 look-pass = refl
 
 room-pass : Pass roomRows
-unfolding roomOf rightLength placesFrom wordsState stateWords joined paired refusalCode wordsIn total every gate then heldTo rowVerdict eachPlace tailVerdict rateSumVerdict tableVerdict roundedUp finish finishVerdict admissionVerdict tableOf writtenOver opening noState startVerdict start leaves lastGroup combined laterGroups numberOf next fieldRead rowRead itemsRead placesRead numbersRead lastVerdict settled readTable begun started numbersTable startedOf upTo accountsHold sound eligible later firstEligible served passed after grantOf advanced withCount withPost done ruleVerdict called inputVerdict slotsState slotsLog slotsVerdict runVerdict run placeVerdict figuresVerdict figures accountAsked standing onState posted slotted ran figured accountTold standingTold roomRows
+unfolding roomOf rightLength placesFrom wordsState stateWords joined paired refusalCode wordsIn total every gate then heldTo fieldsVerdict eachPlace tailVerdict rateSumVerdict needFits needFitsVerdict offeredRowVerdict verdictBy roundedUp finish finishVerdict admissionVerdict tableOf writtenOver opening noState startVerdict start leaves lastGroup combined laterGroups numberOf next fieldRead rowFieldsRead rowRead itemsRead placesBy numbersBy lastVerdict settled readTable begun started numbersTable startedOf upTo accountsHold sound eligible later firstEligible served passed after grantOf advanced withCount withPost done ruleVerdict called inputVerdict slotsState slotsLog slotsVerdict runVerdict run placeVerdict figuresVerdict figures accountAsked standing onState posted slotted ran figured accountTold standingTold roomRows
 room-pass = refl
 
 order-pass : Pass orderRows
-unfolding joined refusalCode total every gate then heldTo rowVerdict eachPlace tailVerdict rateSumVerdict tableVerdict roundedUp finish finishVerdict admissionVerdict tableOf writtenOver groupsOf numberBytes tableNumbers tableBytes writeVerdict writeTable lastGroup combined laterGroups numberOf next fieldRead rowRead itemsRead placesRead numbersRead bind without needHolds lastHolding filledUp listedVerdict orderRead orderBytes ordered orderRows
+unfolding joined refusalCode total every gate then heldTo fieldsVerdict eachPlace tailVerdict rateSumVerdict needFits needFitsVerdict offeredRowVerdict verdictBy roundedUp finish finishVerdict admissionVerdict tableOf writtenOver groupsOf numberBytes tableNumbers tableBytes writeVerdict writeTable lastGroup combined laterGroups numberOf next fieldRead rowFieldsRead rowRead itemsRead placesBy numbersBy bind without needHolds lastHolding filledUp listedVerdict orderRead orderBytes ordered orderRows
 order-pass = refl
 
+need-pass : Pass needRows
+unfolding roomOf rightLength placesFrom wordsState stateWords joined paired refusalCode wordsIn total every gate then heldTo fieldsVerdict eachPlace tailVerdict rateSumVerdict needFits needFitsVerdict offeredRowVerdict verdictBy roundedUp finish finishVerdict admissionVerdict tableOf writtenOver opening noState startVerdict start leaves lastGroup combined laterGroups numberOf next fieldRead rowFieldsRead rowRead itemsRead placesBy numbersBy lastVerdict settled readTable begun started numbersTable startedOf upTo accountsHold sound oldRoomOf oldRightLength fitsInto oldWordsState carry carriedOver withCount withPost done ruleVerdict called onState posted eligible later firstEligible served passed after grantOf advanced slotted inputVerdict slotsState slotsLog slotsVerdict runVerdict run ran placeVerdict figuresVerdict figures leadOf leadVerdict leadAsked figured led named follows chainTo chainFigure nameVerdict circleVerdict followingVerdict chainVerdict chain chained groupsOf numberBytes tableNumbers tableBytes writeVerdict writeTable wrote accountAsked standing accountTold standingTold bind without needHolds lastHolding filledUp listedVerdict orderRead orderBytes ordered wordsThrice numbersThrice needRows
+need-pass = refl
+
 length-pass : Pass lengthRows
-unfolding roomOf rightLength placesFrom wordsState stateWords joined paired refusalCode wordsIn total every gate then heldTo rowVerdict eachPlace tailVerdict rateSumVerdict tableVerdict upTo accountsHold sound done ruleVerdict called onState posted lengthRows
+unfolding roomOf rightLength placesFrom wordsState stateWords joined paired refusalCode wordsIn total every gate then heldTo fieldsVerdict eachPlace tailVerdict rateSumVerdict needFits needFitsVerdict offeredRowVerdict verdictBy upTo accountsHold sound done ruleVerdict called onState posted lengthRows
 length-pass = refl
 
 pub all-pass : All-pass
-all-pass = (start-pass, number-pass, carry-pass, post-pass, slot-pass, run-pass, asked-pass, chain-pass, write-pass, look-pass, room-pass, order-pass, length-pass, refl)
+all-pass = (start-pass, number-pass, carry-pass, post-pass, slot-pass, run-pass, asked-pass, chain-pass, write-pass, look-pass, room-pass, order-pass, need-pass, length-pass, refl)

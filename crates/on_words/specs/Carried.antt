@@ -29,7 +29,8 @@ abbrev pub Carry-refused : Type 0
 Carry-refused = (old-most most : ℕ) (old words : List ℕ) → Clears words (carriedOver old-most most old words)
 
 -- where they fit and it breaks none, it is accepted; the words are then the old ones with zeros behind, and each call of the new unit on them
--- comes to what the old unit's on its own would have come to
+-- comes to what the same call on the old ones comes to. The definitions are today's on both sides: a unit that knew no 17 wrote a table which the
+-- writer now refuses
 abbrev pub Carry-accepted : Type 0
 Carry-accepted =
     (old-most most : ℕ) (old words : List ℕ) → fitsInto old-most most old words ≡ true → sound (oldRoomOf old) (asState (oldStateOf old)) ≡ true

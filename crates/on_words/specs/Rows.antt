@@ -375,6 +375,42 @@ orderRows =
     ∷ ordering [] [] [] [] [] 255
     ∷ []
 
+-- T with a need of three transfers within 15 slots at place 1, whose burst holds one, in words with room for its places; and its table as
+-- numbers, which are its bytes too, with this burst there
+unfoldable pub wordsThrice : (slot c q d e : ℕ) → List ℕ
+wordsThrice slot c q d e = 4 ∷ 2 ∷ slot ∷ 1 ∷ 8 ∷ 1 ∷ 4 ∷ c ∷ q ∷ 1 ∷ 4 ∷ 3 ∷ 15 ∷ d ∷ e ∷ []
+
+unfoldable pub numbersThrice : (burst : ℕ) → List ℕ
+numbersThrice burst = 4 ∷ 2 ∷ 1 ∷ 8 ∷ 1 ∷ 4 ∷ 1 ∷ burst ∷ 3 ∷ 15 ∷ []
+
+-- request 6: no start takes it, and every call but a write serves a state with it
+unfoldable pub needRows : List Row
+needRows =
+    -- refused 17 at place 1 is 17 + 256 × 2; a burst of 12 holds the three. At place 0 it is 17 + 256, where the bytes end behind it
+    starting (numbersThrice 4) 0 (unused 15) (replicate 15 0) 529
+    ∷ starting (numbersThrice 12) 0 (unused 15) (4 ∷ 2 ∷ 0 ∷ 1 ∷ 8 ∷ 1 ∷ 4 ∷ 8 ∷ 0 ∷ 1 ∷ 12 ∷ 3 ∷ 15 ∷ 12 ∷ 0 ∷ []) 0
+    ∷ starting (4 ∷ 2 ∷ 1 ∷ 8 ∷ 3 ∷ 12 ∷ []) 0 (unused 15) (replicate 15 0) 273
+    ∷ numbering (numbersThrice 4) 0 (unused 15) (replicate 15 0) 529
+    ∷ numbering (numbersThrice 11) (maxSlot + 1) (unused 15) (replicate 15 0) 529
+    ∷ numbering (numbersThrice 12) (maxSlot + 1) (unused 15) (replicate 15 0) 12
+    ∷ ordering (numbersThrice 4) (unused 9) (91 ∷ []) (unused 9) (91 ∷ []) 529
+    ∷ ordering (numbersThrice 12) (unused 10) (91 ∷ []) (numbersThrice 12) (10 ∷ []) 0
+    -- a state that has it
+    ∷ posting (wordsThrice 0 8 0 4 0) 1 3 (wordsThrice 0 8 0 4 3) 0
+    ∷ slotting (wordsThrice 0 8 0 4 3) (90 ∷ 91 ∷ []) (wordsThrice 1 8 0 1 2) (0 ∷ 2 ∷ []) 0
+    ∷ running (wordsThrice 0 8 0 4 3) (unused 4) (wordsThrice 4 8 0 0 1) (1 ∷ 255 ∷ 255 ∷ 1 ∷ []) 0
+    ∷ figuring (wordsThrice 0 8 0 4 3) 1 3 (90 ∷ 91 ∷ []) (3 ∷ 15 ∷ []) 0
+    ∷ figuring (wordsThrice 0 8 0 4 3) 1 255 (90 ∷ 91 ∷ []) (3 ∷ 1023 ∷ []) 0
+    ∷ leading (wordsThrice 0 8 0 4 3) 1 nineSlots (pos 90 ∷ []) (pos 3 ∷ []) 0
+    ∷ chaining (wordsThrice 0 8 0 4 3) 1 (255 ∷ 0 ∷ []) (90 ∷ []) (11 ∷ []) 0
+    ∷ looking (wordsThrice 0 8 0 4 3) 1 (90 ∷ 91 ∷ []) (4 ∷ 3 ∷ []) 0
+    ∷ standing (wordsThrice 7 8 0 4 3) (90 ∷ 91 ∷ []) (7 ∷ 2 ∷ []) 0
+    ∷ carrying (wordsThrice 2 2 1 6 3) (unused 15) (wordsThrice 2 2 1 6 3) 0
+    -- its table is not written, into room enough or into none
+    ∷ writing (wordsThrice 0 8 0 4 3) (unused 12) (91 ∷ []) (unused 12) (91 ∷ []) 529
+    ∷ writing (wordsThrice 0 8 0 4 3) [] (91 ∷ []) [] (91 ∷ []) 529
+    ∷ []
+
 -- as many words: 9 are room for one place and 387 for the largest N; no other of these is a state's length
 unfoldable pub lengthRows : List Row
 lengthRows =
@@ -395,4 +431,4 @@ abbrev pub Pass : List Row → Type 0
 Pass rows = map (λ r. r .asked) rows ≡ map (λ r. r .written) rows
 
 abbrev pub All-pass : Type 0
-All-pass = Pass startRows × Pass numberRows × Pass carryRows × Pass postRows × Pass slotRows × Pass runRows × Pass askedRows × Pass chainRows × Pass writeRows × Pass lookRows × Pass roomRows × Pass orderRows × Pass lengthRows × Sizes
+All-pass = Pass startRows × Pass numberRows × Pass carryRows × Pass postRows × Pass slotRows × Pass runRows × Pass askedRows × Pass chainRows × Pass writeRows × Pass lookRows × Pass roomRows × Pass orderRows × Pass needRows × Pass lengthRows × Sizes

@@ -25,7 +25,7 @@ module _ (limit : ℕ) (bytes : List ℕ) where
   abbrev in-order : Read Table → Type 0
   in-order r = numbersRead limit bytes ≡ r
 
-  -- the table that was read passes 1 to 5, so that 6 is left of the checks ahead of 15
+  -- the table that was read passes 1 to 5 and 17, so that 6 is left of the checks ahead of 15
   pub read-ordered : (t : Table) → in-order (read t []) → order limit t ≡ orderRead limit (numbersRead limit bytes)
   unfolding order orderRead listedVerdict gate then
   read-ordered t whole = let checked = numbers-open limit bytes t [] whole .checked in rw (whole, checked)
@@ -84,7 +84,7 @@ module _ (limit : ℕ) (bytes : List ℕ) where
           told faultless f option.none g = turned-down (refusal 15) (rw (whole, f, g))
           told faultless f (option.some rows) g = carried-out (tableOf limit (t .denominator) (t .count) rows) (rw (whole, f, g))
 
-  -- so the writer's checks 1 to 7 pass
+  -- so the writer's admission passes
   pub answer-admitted : (u : Table) → orderRead limit (numbersRead limit bytes) ≡ accept u → admissionVerdict limit u ≡ faultless
   answer-admitted u e = let a = answered u e in answer-passes limit (a .listed) u (a .shape) (a .ordered) .0
 

@@ -20,7 +20,7 @@ unfoldable pub orderRead : ℕ → Read Table → TableResult
 orderRead limit (read t rest) = resolve (listedVerdict t rest) (found limit t (orderOf t)) (refuse limit)
 orderRead limit (stop why) = refuse limit why
 
--- its bytes, which 14 alone is tested of: 1 to 7 pass (ordered_tables, Bytes, As-the-writer)
+-- its bytes, which 14 alone is tested of: admission passes (ordered_tables, Bytes, As-the-writer)
 abbrev pub writtenInOrder : TableResult → (old : List ℕ) → TableWritten
 writtenInOrder o old = unless (o .answer) (λ why. record { answer = refused why; buffer = old }) (writtenBy (roomVerdict (o .table) (length old)) (o .table) old)
 

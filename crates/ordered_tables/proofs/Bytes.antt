@@ -1,7 +1,7 @@
 -- From bytes to bytes. Assumes nothing.
 use mathlib.Core.Path.{_≡_, refl, ap, sym, _∙_}
 use mathlib.Core.List.{List, [], _∷_, _++_}
-use Prim.Native.Nat.{ℕ, suc, _+_, _<_}
+use Prim.Native.Nat.{ℕ, suc, _+_}
 use native.Mathlib.Omega.{arith}
 use borrow.Author.Tests.{le-leb, ne-eqb}
 use lib.Dec.{leb}
@@ -99,22 +99,23 @@ as-many-bytes limit bytes t u old all l =
 
 -- no check ahead of it has its number
 abbrev NotFifteen : Refusal → Type 0
-NotFifteen why = why .number < 15
+NotFifteen why = why .number ≡ 15 → ⊥
 
 not-fifteen : (limit : ℕ) → TableRefusals limit NotFifteen
 not-fifteen limit = record {
-  one = omega arith;
-  two = omega arith;
-  three = λ p h. omega arith;
-  four = λ p h. omega arith;
-  five = λ p h. omega arith;
-  six = omega arith;
-  eight = omega arith;
-  nine = omega arith;
+  one = λ e. omega arith;
+  two = λ e. omega arith;
+  three = λ p h e. omega arith;
+  four = λ p h e. omega arith;
+  five = λ p h e. omega arith;
+  six = λ e. omega arith;
+  eight = λ e. omega arith;
+  nine = λ e. omega arith;
+  seventeen = λ p h e. omega arith;
 }
 
 never-fifteen : {X : Type 0} (why : Refusal) → NotFifteen why → why ≡ refusal 15 → X
-never-fifteen why below same = let number : why .number ≡ 15 = ap (λ (r : Refusal). r .number) same in absurd (omega arith)
+never-fifteen why other same = absurd (other (ap (λ (r : Refusal). r .number) same))
 
 same-why : (limit : ℕ) (why other : Refusal) → refuse limit why ≡ refuse limit other → why ≡ other
 same-why limit why other e = let answers : refused why ≡ refused other = ap (λ (x : TableResult). x .answer) e in cc
@@ -143,7 +144,7 @@ module _ (limit : ℕ) (bytes : List ℕ) where
       by (read t []) e = of-the-table t e (read-ordered limit bytes t e ∙ f)
       by (read t (x ∷ rest)) e =
           let some-left = ne-eqb (suc (length rest)) 0 (λ z. omega arith) in
-          never-fifteen (refusal 10) (omega arith) (same-why limit (refusal 10) (refusal 15) (ordered-none limit bytes (refusal 10) (rw (e, some-left)) ∙ f))
+          never-fifteen (refusal 10) (λ z. omega arith) (same-why limit (refusal 10) (refusal 15) (ordered-none limit bytes (refusal 10) (rw (e, some-left)) ∙ f))
 
 -- the answer is 15 where the search's is: 14 has another number
 module _ (limit : ℕ) (bytes old : List ℕ) where
@@ -155,7 +156,7 @@ module _ (limit : ℕ) (bytes old : List ℕ) where
       by (turned-down why e) = let answers : writing.refused why ≡ writing.refused (refusal 15) = rw e at f in let same : why ≡ refusal 15 = cc in e ∙ ap (refuse limit) same
       by (carried-out u e) = cases (leb (length (tableBytes u)) (length old))
           (λ on. let z : writing.wrote (length (tableBytes u)) ≡ writing.refused (refusal 15) = rw (e, on) at f in let never : _≡_ {A = ℕ} 0 1 = cc in absurd (omega arith))
-          (λ off. let z : writing.refused (refusal 14) ≡ writing.refused (refusal 15) = rw (e, off) at f in let same : refusal 14 ≡ refusal 15 = cc in never-fifteen (refusal 14) (omega arith) same)
+          (λ off. let z : writing.refused (refusal 14) ≡ writing.refused (refusal 15) = rw (e, off) at f in let same : refusal 14 ≡ refusal 15 = cc in never-fifteen (refusal 14) (λ z. omega arith) same)
 
   is-fifteen : Orderless limit bytes → orderBytes limit bytes old .answer ≡ writing.refused (refusal 15)
   unfolding orderBytes

@@ -10,7 +10,7 @@ use Rattle.lists.specs.Overwriting.{writtenOver}
 use Rattle.groups.specs.Groups.{maxNumber}
 use Rattle.groups.specs.Inverse.{Bytes}
 use Rattle.terms.specs.declared.refusals.Refusal.{Refusal}
-use Rattle.terms.specs.Table.{Table, tableVerdict}
+use Rattle.terms.specs.Table.{Table, offeredVerdict}
 use Rattle.terms.specs.Refusals.{faultless, refusal, gate, resolve}
 use Rattle.terms.specs.TableResult.{accept}
 use Rattle.table_bytes.specs.Reading.{read, numbersRead, readTable}
@@ -26,7 +26,7 @@ pub record Listed (limit : ℕ) (bytes : List ℕ) (t u : Table) : Type 0 where
   pub shape : length (t .requestors) ≡ limit
   pub ordered : order limit t ≡ accept u
 
--- 8, 9, 1 to 5 and 10 are the reader's, and write nothing
+-- 8, 9, 1 to 5, 17 and 10 are the reader's, and write nothing
 abbrev pub Unread-is-refused : Type 0
 Unread-is-refused = (limit : ℕ) (bytes old : List ℕ) (why : Refusal) → laid (numbersRead limit bytes) ≡ unread why
     → orderBytes limit bytes old ≡ record { answer = refused why; buffer = old }
@@ -36,11 +36,11 @@ abbrev pub Read-is-ordered : Type 0
 Read-is-ordered = (limit : ℕ) (bytes : List ℕ) (t : Table) → numbersRead limit bytes ≡ read t []
     → (orderRead limit (numbersRead limit bytes) ≡ order limit t) × (length (t .requestors) ≡ limit)
 
--- the bytes list a table that passes 1 to 6, and no order of it passes
+-- the bytes list a table that passes 1 to 6 and 17, and no order of it passes
 pub record Orderless (limit : ℕ) (bytes : List ℕ) : Type 0 where
   pub table : Table
   pub numbers : numbersRead limit bytes ≡ read table []
-  pub checked : tableVerdict limit table ≡ faultless
+  pub checked : offeredVerdict limit table ≡ faultless
   pub none-passes : No-order-passes limit table
 
 abbrev pub Fifteen-of-bytes : Type 0
@@ -51,7 +51,7 @@ Fifteen-of-bytes = (limit : ℕ) (bytes old : List ℕ)
 abbrev pub Ordered-is-listed : Type 0
 Ordered-is-listed = (limit : ℕ) (bytes : List ℕ) (u : Table) → orderRead limit (numbersRead limit bytes) ≡ accept u → (t : Table) × Listed limit bytes t u
 
--- and is written as the writer writes it, whose checks 1 to 7 then pass
+-- and is written as the writer writes it, whose admission then passes
 abbrev pub As-the-writer : Type 0
 As-the-writer = (limit : ℕ) (bytes : List ℕ) (u : Table) (old : List ℕ) → orderRead limit (numbersRead limit bytes) ≡ accept u
     → orderBytes limit bytes old ≡ writeTable limit u old

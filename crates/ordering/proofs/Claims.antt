@@ -11,14 +11,14 @@ use Rattle.lists.specs.Overwriting.{writtenOver}
 use Rattle.lists.proofs.Orders.{permuted-length}
 use Rattle.terms.specs.declared.refusals.Refusal.{Refusal}
 use Rattle.terms.specs.declared.place.Requestor.{Requestor}
-use Rattle.terms.specs.Table.{Table, noRequestor, requestorsOf, tableOf, tableVerdict}
+use Rattle.terms.specs.Table.{Table, noRequestor, requestorsOf, tableOf, offeredRowVerdict, offeredVerdict}
 use Rattle.terms.specs.Refusals.{Verdict, faultless, fault, refusal}
 use Rattle.terms.specs.Figures.{admissionVerdict}
 use Rattle.terms.specs.Answers.{accepted, refused}
 use Rattle.terms.specs.TableResult.{TableResult, accept, refuse}
 use Rattle.terms.specs.State.{State}
 use Rattle.terms.specs.Start.{noState}
-use Rattle.terms.proofs.Checks.{faultless-fault, passed, fair, then-open}
+use Rattle.terms.proofs.Checks.{faultless-fault, passed, offered-passes, fair, then-open}
 use Rattle.terms.proofs.Tables.{table-length, table-rows, clear-rows, table-whole, refuse-accept}
 use Rattle.ordering.specs.Order.{orderOf, order}
 use Rattle.ordering.specs.InPlace.{inState, tableOnly}
@@ -30,16 +30,16 @@ use Rattle.ordering.proofs.Reorders.{reordered-back, checks-stand, rate
 -- ---- how an ordering ends
 
 pub data Ends (limit : ℕ) (t : Table) : Type 0 where
-  turned-down : (why : Refusal) → tableVerdict limit t ≡ fault why → order limit t ≡ refuse limit why → Ends limit t
-  not-found : tableVerdict limit t ≡ faultless → orderOf t ≡ none → order limit t ≡ refuse limit (refusal 15) → Ends limit t
-  ordered : (rows : List Requestor) → tableVerdict limit t ≡ faultless → orderOf t ≡ some rows
+  turned-down : (why : Refusal) → offeredVerdict limit t ≡ fault why → order limit t ≡ refuse limit why → Ends limit t
+  not-found : offeredVerdict limit t ≡ faultless → orderOf t ≡ none → order limit t ≡ refuse limit (refusal 15) → Ends limit t
+  ordered : (rows : List Requestor) → offeredVerdict limit t ≡ faultless → orderOf t ≡ some rows
       → order limit t ≡ accept (tableOf limit (t .denominator) (t .count) rows) → Ends limit t
 
 pub ends : (limit : ℕ) (t : Table) → Ends limit t
 unfolding order
-ends limit t = by (tableVerdict limit t) refl (orderOf t) refl
+ends limit t = by (offeredVerdict limit t) refl (orderOf t) refl
   where
-    by : (v : Verdict) → tableVerdict limit t ≡ v → (o : Option (List Requestor)) → orderOf t ≡ o → Ends limit t
+    by : (v : Verdict) → offeredVerdict limit t ≡ v → (o : Option (List Requestor)) → orderOf t ≡ o → Ends limit t
     by (fault why) e o f = turned-down why e (rw e)
     by faultless e none f = not-found e f (rw (e, f))
     by faultless e (some rows) f = ordered rows e f (rw (e, f))
@@ -56,9 +56,9 @@ in-state limit s t = by (ends limit t)
 
 -- ---- what is found
 
-module _ (limit : ℕ) (t : Table) (shape : length (t .requestors) ≡ limit) (ok : tableVerdict limit t ≡ faultless) where
+module _ (limit : ℕ) (t : Table) (shape : length (t .requestors) ≡ limit) (ok : offeredVerdict limit t ≡ faultless) where
   few : t .count ≤ length (t .requestors)
-  few = omega (arith, fair limit t ok .count-most)
+  few = omega (arith, fair limit t (offered-passes limit t ok) .count-most)
 
   as-many : length (requestorsOf t) ≡ t .count
   as-many = length-take-le (t .count) (t .requestors) few
@@ -90,7 +90,7 @@ module _ (limit : ℕ) (t : Table) (shape : length (t .requestors) ≡ limit) (o
       count = refl;
       requestors = rw own-rows permuted;
       past = drop-at rows (drop (length rows) (replicate limit noRequestor)) (t .count) row-count
-          ∙ rw (row-count, ← shape) (sym (clear-rows (t .count) (t .requestors) (passed limit t ok .clear)));
+          ∙ rw (row-count, ← shape) (sym (clear-rows (t .count) (t .requestors) (passed offeredRowVerdict limit t ok .clear)));
     }
 
     found-holds : Holds (t .denominator) (requestorsOf u)
@@ -105,12 +105,12 @@ module _ (limit : ℕ) (t : Table) (shape : length (t .requestors) ≡ limit) (o
 
 -- ---- where none is found
 
-no-order-passes : (limit : ℕ) (t : Table) → length (t .requestors) ≡ limit → tableVerdict limit t ≡ faultless → orderOf t ≡ none → No-order-passes limit t
+no-order-passes : (limit : ℕ) (t : Table) → length (t .requestors) ≡ limit → offeredVerdict limit t ≡ faultless → orderOf t ≡ none → No-order-passes limit t
 no-order-passes limit t shape ok e u other passes =
     no-order (t .denominator) (t .count) (requestorsOf t) [] (requestorsOf u) (as-many limit t shape ok) (rated limit t ok) e (other .requestors)
     (rw (other .denominator) at (admitted-holds limit u passes))
 
-turned-down-none : (limit : ℕ) (t : Table) (why : Refusal) → tableVerdict limit t ≡ fault why → No-order-passes limit t
+turned-down-none : (limit : ℕ) (t : Table) (why : Refusal) → offeredVerdict limit t ≡ fault why → No-order-passes limit t
 unfolding admissionVerdict
 turned-down-none limit t why e u other passes =
     faultless-fault why (sym (checks-stand limit u t (reordered-back t u other) (then-open _ _ passes .0)) ∙ e)
@@ -119,7 +119,7 @@ turned-down-none limit t why e u other passes =
 
 -- the answer is what was found
 answered : (P : Table → Type 0) (limit : ℕ) (t w : Table) → order limit t ≡ accept w
-    → ((rows : List Requestor) → tableVerdict limit t ≡ faultless → orderOf t ≡ some rows → P (tableOf limit (t .denominator) (t .count) rows)) → P w
+    → ((rows : List Requestor) → offeredVerdict limit t ≡ faultless → orderOf t ≡ some rows → P (tableOf limit (t .denominator) (t .count) rows)) → P w
 answered P limit t w e of-found = by (ends limit t)
   where
     by : Ends limit t → P w
@@ -140,11 +140,11 @@ answer-passes limit t u shape e =
 pub right-order-stays : Right-order-stays
 unfolding order admissionVerdict
 right-order-stays limit t shape passes =
-    let ok : tableVerdict limit t ≡ faultless = then-open _ _ passes .0 in
+    let ok : offeredVerdict limit t ≡ faultless = then-open _ _ passes .0 in
     let rs = requestorsOf t in
     let all = right-already (t .denominator) (length rs) rs (omega arith) (admitted-holds limit t passes) in
     let listed : orderOf t ≡ some rs = rw (take-length rs, drop-length rs, as-many limit t shape ok) at all in
-    let whole : tableOf limit (t .denominator) (t .count) rs ≡ t = rw shape at (table-whole t (few limit t shape ok) (passed limit t ok .clear)) in
+    let whole : tableOf limit (t .denominator) (t .count) rs ≡ t = rw shape at (table-whole t (few limit t shape ok) (passed offeredRowVerdict limit t ok .clear)) in
     rw (ok, listed, whole)
 
 pub answer-stays : Answer-stays

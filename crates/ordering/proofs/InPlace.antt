@@ -16,20 +16,20 @@ use Rattle.lists.specs.Runs.{Result}
 use Rattle.lists.proofs.Sums.{total-take-rises}
 use Rattle.lists.proofs.Orders.{total-without}
 use Rattle.terms.specs.declared.place.Requestor.{Requestor}
-use Rattle.terms.specs.Table.{rate, burst, noRequestor, requestorAt, requestorsOf, tableOf}
+use Rattle.terms.specs.Table.{rate, burst, noRequestor, requestorAt, requestorsOf, tableOf, offeredRowVerdict}
 use Rattle.terms.specs.Limits.{maxDenominator, maxBurst, maxWithin}
 use Rattle.terms.specs.Figures.{burstsAbove, ratesAbove, finishOf}
 use Rattle.terms.specs.Refusals.{refusal}
 use Rattle.terms.specs.Answers.{Answer, accepted}
 use Rattle.terms.specs.State.{State}
 use Rattle.terms.specs.Start.{turnedDown}
-use Rattle.terms.proofs.Checks.{Fair, fair, bursts-fit, passed}
+use Rattle.terms.proofs.Checks.{Fair, fair, bursts-fit, passed, offered-passes}
 use Rattle.terms.proofs.Tables.{table-whole}
 use Rattle.layout.specs.Words.{wordCount, roomOf, rowIn, wordsState, stateOf, putRow, withTable}
 use Rattle.layout.proofs.RoundTrip.{right}
 use Rattle.layout.proofs.Stores.{same-room, right-stands, put-row, put-row-length}
-use Rattle.admission.specs.Checked.{tableIn, rowsIn, Checked, Parts}
-use Rattle.admission.proofs.Rows.{rows-length, row-at, Placed, placed}
+use Rattle.admission.specs.Checked.{tableIn, rowsIn, OfferChecked, Parts}
+use Rattle.admission.proofs.Rows.{offered-checked, rows-length, row-at, Placed, placed}
 use Rattle.ordering.specs.Order.{needHolds, lastHolding, filledUp, orderOf, found}
 use Rattle.ordering.specs.InPlace.{inState, Remaining, lowered}
 use Rattle.ordering.specs.Claims.{sameRequestor, Reordered}
@@ -47,7 +47,7 @@ module _ (most : ℕ) (words : List ℕ) (k bursts rates : ℕ) (v : Remaining m
   remaining = take k (rowsIn words)
 
   in-numbers : Fair (roomOf words) (tableIn words)
-  in-numbers = fair (roomOf words) (tableIn words) (v .checked .passes)
+  in-numbers = fair (roomOf words) (tableIn words) (offered-passes _ _ (v .checked .passes))
 
   pub within-room : k ≤ roomOf words
   within-room = omega (arith, v .few, in-numbers .count-most)
@@ -72,7 +72,7 @@ module _ (most : ℕ) (words : List ℕ) (k bursts rates : ℕ) (v : Remaining m
 
   module _ (i : ℕ) (h : i < k) where
     pub one : Placed most words i
-    one = placed most words i (v .checked) (omega (arith, v .few))
+    one = placed most words i (offered-checked most words (v .checked)) (omega (arith, v .few))
 
     own-row : requestorAt i remaining ≡ rowIn words i
     own-row = getD-take k (rowsIn words) i noRequestor h ∙ row-at words i (omega (arith, within-room))
@@ -209,7 +209,7 @@ pub record Searching (most : ℕ) (entry words : List ℕ) (k bursts rates : ℕ
   pub same-count : tableIn words .count ≡ tableIn entry .count
   pub goes-on : orderOf (tableIn entry) ≡ filledUp (tableIn words .denominator) k (take k (rowsIn words)) (take (tableIn words .count - k) (drop k (rowsIn words)))
 
-pub searching-none : (most : ℕ) (entry : List ℕ) (k bursts rates : ℕ) → Checked most entry → k ≡ tableIn entry .count → bursts ≡ burstsAbove k (rowsIn entry) → rates ≡ ratesAbove k (rowsIn entry)
+pub searching-none : (most : ℕ) (entry : List ℕ) (k bursts rates : ℕ) → OfferChecked most entry → k ≡ tableIn entry .count → bursts ≡ burstsAbove k (rowsIn entry) → rates ≡ ratesAbove k (rowsIn entry)
     → Searching most entry entry k bursts rates
 searching-none most entry k bursts rates ok e b r =
     let none-below : tableIn entry .count - k ≡ 0 = omega arith in
@@ -249,7 +249,7 @@ module _ (most : ℕ) (entry words : List ℕ) (k bursts rates : ℕ) (v : Searc
     count-next = ap (λ s. s .table .count) e
 
     long : tableIn words .count ≤ length (rowsIn words)
-    long = omega (arith, fair (roomOf words) (tableIn words) (v .remain .checked .passes) .count-most, rows-length words)
+    long = omega (arith, fair (roomOf words) (tableIn words) (offered-passes _ _ (v .remain .checked .passes)) .count-most, rows-length words)
 
     reordered : Reordered (tableIn words) (tableIn next)
     unfolding occurrences
@@ -260,7 +260,7 @@ module _ (most : ℕ) (entry words : List ℕ) (k bursts rates : ℕ) (v : Searc
       past = rw (count-next, rows-next) (lowered-past noRequestor (rowsIn words) i k (tableIn words .count) inside (v .remain .few) long);
     }
 
-    still-checked : Checked most next
+    still-checked : OfferChecked most next
     still-checked = record {
       right = right-stands most words next stands (v .remain .checked .right);
       passes = rw (same-room words next stands) (checks-stand (roomOf words) (tableIn words) (tableIn next) reordered (v .remain .checked .passes));
@@ -298,8 +298,8 @@ module _ (most : ℕ) (entry words : List ℕ) (k bursts rates : ℕ) (v : Searc
       let zero-left : k ≡ 0 = omega arith in
       let all : tableIn words .count - 0 ≡ tableIn words .count = omega arith in
       let listed : orderOf (tableIn entry) ≡ some (requestorsOf (tableIn words)) = rw (zero-left, all) at (v .goes-on) in
-      let few : tableIn words .count ≤ length (rowsIn words) = omega (arith, fair (roomOf words) (tableIn words) (v .remain .checked .passes) .count-most, rows-length words) in
-      let whole = table-whole (tableIn words) few (passed (roomOf words) (tableIn words) (v .remain .checked .passes) .clear) in
+      let few : tableIn words .count ≤ length (rowsIn words) = omega (arith, fair (roomOf words) (tableIn words) (offered-passes _ _ (v .remain .checked .passes)) .count-most, rows-length words) in
+      let whole = table-whole (tableIn words) few (passed offeredRowVerdict (roomOf words) (tableIn words) (v .remain .checked .passes) .clear) in
       let room : length (rowsIn words) ≡ roomOf entry = rows-length words ∙ same-room entry words (v .length-stands) in
       let rows = requestorsOf (tableIn words) in
       let same : tableOf (roomOf entry) (tableIn entry .denominator) (tableIn entry .count) rows ≡ tableIn words =

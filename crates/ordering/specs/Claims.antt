@@ -7,7 +7,7 @@ use lib.ListN.{length, drop}
 use Rattle.lists.specs.Orders.{Permuted, Tells}
 use Rattle.terms.specs.declared.refusals.Refusal.{Refusal}
 use Rattle.terms.specs.declared.place.Requestor.{Requestor}
-use Rattle.terms.specs.Table.{Table, requestorsOf, tableVerdict}
+use Rattle.terms.specs.Table.{Table, requestorsOf, offeredVerdict}
 use Rattle.terms.specs.Refusals.{faultless, fault, refusal}
 use Rattle.terms.specs.Figures.{admissionVerdict}
 use Rattle.terms.specs.Answers.{refused}
@@ -59,9 +59,9 @@ Some-order-is-found = (limit : ℕ) (t v : Table) → length (t .requestors) ≡
 
 -- ---- what is refused
 
--- what 1 to 6 find of the table as it is listed comes first, with the place that they name
+-- what 1 to 6 and 17 find of the table as it is listed comes first, with the place that they name
 abbrev pub Fault-is-answered : Type 0
-Fault-is-answered = (limit : ℕ) (t : Table) (why : Refusal) → tableVerdict limit t ≡ fault why → order limit t ≡ refuse limit why
+Fault-is-answered = (limit : ℕ) (t : Table) (why : Refusal) → offeredVerdict limit t ≡ fault why → order limit t ≡ refuse limit why
 
 abbrev pub Refused-is-all-0 : Type 0
 Refused-is-all-0 = (limit : ℕ) (t : Table) (why : Refusal) → order limit t .answer ≡ refused why → order limit t ≡ refuse limit why
@@ -73,5 +73,5 @@ Refused-means-none = (limit : ℕ) (t : Table) (why : Refusal) → length (t .re
 
 -- and 15 is the number wherever that is all that is wrong
 abbrev pub Fifteen-exactly : Type 0
-Fifteen-exactly = (limit : ℕ) (t : Table) → length (t .requestors) ≡ limit → tableVerdict limit t ≡ faultless
+Fifteen-exactly = (limit : ℕ) (t : Table) → length (t .requestors) ≡ limit → offeredVerdict limit t ≡ faultless
     → (order limit t .answer ≡ refused (refusal 15) → No-order-passes limit t) × (No-order-passes limit t → order limit t .answer ≡ refused (refusal 15))

@@ -14,7 +14,7 @@ use Rattle.terms.specs.TableResult.{TableResult}
 use Rattle.terms.specs.State.{State}
 use Rattle.terms.specs.Start.{turnedDown}
 use Rattle.layout.specs.Words.{withTable}
-use Rattle.admission.specs.Checked.{tableIn, rowsIn, Checked}
+use Rattle.admission.specs.Checked.{tableIn, rowsIn, OfferChecked}
 use Rattle.ordering.specs.declared.search.Holding.{Holding}
 use Rattle.ordering.specs.declared.search.Holding.the-variants as holding
 
@@ -28,7 +28,7 @@ tableOnly r = record { table = r .state .table; answer = r .answer }
 
 -- the first k rows remain, and the sums are theirs
 pub record Remaining (most : ℕ) (words : List ℕ) (k bursts rates : ℕ) : Type 0 where
-  pub checked : Checked most words
+  pub checked : OfferChecked most words
   pub few : k ≤ tableIn words .count
   pub bursts-are : bursts ≡ burstsAbove k (rowsIn words)
   pub rates-are : rates ≡ ratesAbove k (rowsIn words)

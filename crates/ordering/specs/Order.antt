@@ -1,6 +1,6 @@
 -- Document 02, request 2: a table whose requestors are listed by someone who does not know their priorities. The last place, N−1, is given
 -- away first, then the one above it, and so on up to place 0. It goes to the last requestor in the list that can do with every other one of
--- the list above it; that one leaves the list, which is otherwise as it was. The checks are 1 to 6 of the table as it is listed, then 15.
+-- the list above it; that one leaves the list, which is otherwise as it was. The checks are 1 to 6 and 17 of the table as it is listed, then 15.
 use mathlib.Core.Bool.{Bool}
 use mathlib.Core.List.{List, [], _∷_}
 use mathlib.Core.Option.{Option, none, some, bind}
@@ -10,7 +10,7 @@ use Rattle.lists.specs.Choices.{pick}
 use Rattle.lists.specs.Sums.{total}
 use Rattle.lists.specs.Orders.{without}
 use Rattle.terms.specs.declared.place.Requestor.{Requestor}
-use Rattle.terms.specs.Table.{Table, rate, burst, requestorAt, requestorsOf, tableOf, tableVerdict}
+use Rattle.terms.specs.Table.{Table, rate, burst, requestorAt, requestorsOf, tableOf, offeredVerdict}
 use Rattle.terms.specs.Figures.{finishOf}
 use Rattle.terms.specs.Refusals.{refusal, resolve}
 use Rattle.terms.specs.TableResult.{TableResult, accept, refuse}
@@ -43,7 +43,7 @@ found limit t (some rows) = accept (tableOf limit (t .denominator) (t .count) ro
 
 -- a table put in order; `limit` is how many places there is room for
 unfoldable pub order : ℕ → Table → TableResult
-order limit t = resolve (tableVerdict limit t) (found limit t (orderOf t)) (refuse limit)
+order limit t = resolve (offeredVerdict limit t) (found limit t (orderOf t)) (refuse limit)
 
 -- the code's result in these values
 abbrev pub orderResultOf : OrderResult → TableResult

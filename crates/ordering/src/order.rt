@@ -1,4 +1,4 @@
-// A table put in order: checks 1 to 6 of it as listed, and then the search.
+// A table put in order: checks 1 to 6 and 17 of it as listed, and then the search.
 use crate::refusing::turn_down;
 use crate::search::search;
 use arbiter::admit::check_laid;
@@ -26,7 +26,7 @@ pub struct OrderResult {
     pub answer: OrderAnswer,
 }
 
-// Of the table that was laid into words of a state's length: they then hold it in order, or are all 0. Refused: 1 to 6, 15.
+// Of the table that was laid into words of a state's length: they then hold it in order, or are all 0. Refused: 1 to 6, 17, 15.
 fn order_right(words: &mut [u64]) -> OrderAnswer
     requires { ⌜ rightLength maxPlaces (now words) ≡ true ⌝ }
     ensures { λ a. ⌜ record { state = stateOf (now (words .exit)); answer = orderAnswerOf a } ≡ inState (roomOf (now (words .entry))) (stateOf (now (words .entry))) (order (roomOf (now (words .entry))) (stateOf (now (words .entry)) .table)) ⌝ }
@@ -49,7 +49,7 @@ pub fn order_laid(words: &mut [u64]) -> OrderAnswer
     OrderAnswer::Refused(Cause::State(StateRefusal::Unsound))
 }
 
-// The table with its requestors where the search puts them; a refused one comes back all 0. Refused: 1 to 6, 15.
+// The table with its requestors where the search puts them; a refused one comes back all 0. Refused: 1 to 6, 17, 15.
 pub fn order(t: Table) -> OrderResult
     ensures { λ r. ⌜ orderResultOf r ≡ order maxPlaces (given t) ⌝ }
 {

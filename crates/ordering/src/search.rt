@@ -20,7 +20,7 @@ ghost use Rattle.lists.specs.Orders.{without};
 ghost use Rattle.terms.specs.Limits.{maxPlaces};
 ghost use Rattle.terms.specs.Answers.{orderAnswerOf};
 ghost use Rattle.layout.specs.Words.{roomOf, rightLength, stateOf, rowIn};
-ghost use Rattle.admission.specs.Checked.{tableIn, rowsIn, Checked};
+ghost use Rattle.admission.specs.Checked.{tableIn, rowsIn, OfferChecked};
 ghost use Rattle.ordering.specs.Order.{needHolds, lastHolding, orderOf, found};
 ghost use Rattle.ordering.specs.InPlace.{inState, Remaining, lowered, holdingOf};
 
@@ -71,9 +71,9 @@ fn lower(words: &mut [u64], i: usize, p: usize)
     put_row(words, p, r);
 }
 
-// Of a table that passed checks 1 to 6: its rows in the order that is found. Refused: 15.
+// Of a table that passed checks 1 to 6 and 17: its rows in the order that is found. Refused: 15.
 pub(crate) fn search(words: &mut [u64]) -> OrderAnswer
-    requires { ⌜ Checked maxPlaces (now words) ⌝ }
+    requires { ⌜ OfferChecked maxPlaces (now words) ⌝ }
     ensures { λ a. ⌜ record { state = stateOf (now (words .exit)); answer = orderAnswerOf a } ≡ inState (roomOf (now (words .entry))) (stateOf (now (words .entry))) (found (roomOf (now (words .entry))) (tableIn (now (words .entry))) (orderOf (tableIn (now (words .entry))))) ⌝ }
 {
     let mut k = count(words);

@@ -22,7 +22,7 @@ use Rattle.terms.specs.declared.refusals.Named.the-variants as named
 use Rattle.terms.specs.declared.refusals.Refusal.{Refusal}
 use Rattle.terms.specs.State.{State, backlog, accountAt, sound, placeVerdict}
 use Rattle.terms.specs.declared.place.Requestor.{Requestor}
-use Rattle.terms.specs.Table.{Table, rate, requestorClear, requestorsOf, tableOf, Bounds, denominatorBounds, countBounds, rateBounds, burstBounds, needBounds, withinBounds, heldTo, rowVerdict, eachPlace, tailVerdict, rateSumVerdict, tableVerdict}
+use Rattle.terms.specs.Table.{Table, rate, requestorClear, requestorsOf, tableOf, Bounds, denominatorBounds, countBounds, rateBounds, burstBounds, needBounds, withinBounds, heldTo, fieldsVerdict, needFits, needFitsVerdict, offeredRowVerdict, eachPlace, tailVerdict, rateSumVerdict, verdictBy, offeredVerdict}
 use Rattle.terms.specs.Limits.{maxBacklog, maxSlot, maxInput}
 use Rattle.terms.specs.Refusals.{originOf, Verdict, faultless, fault, refusal, refusalAt, gate, then, resolve}
 use Rattle.terms.specs.Answers.{Answer, accepted, granted, idle, refused, unless}
@@ -33,11 +33,11 @@ use Rattle.terms.specs.Longer.{longer}
 use Rattle.carrying.specs.Carry.{asState, carryVerdict, carry}
 use Rattle.terms.specs.Asked as asked
 use Rattle.terms.specs.Chain as chains
-use Rattle.terms.proofs.Checks.{held-open, fair}
+use Rattle.terms.proofs.Checks.{held-open, offered-passes, fair}
 use Rattle.terms.proofs.Sound.{place-open, sound-table}
 use Rattle.terms.proofs.Chain.{chain-refused}
 use Rattle.terms.specs.TableResult.{TableResult, accept, refuse}
-use Rattle.table_bytes.specs.Reading.{Read, read, stop, next, readAs, numberRead, fieldRead, rowRead, itemsRead, rowsRead, placesRead, numbersRead, leftVerdict, lastVerdict, settled, readTable}
+use Rattle.table_bytes.specs.Reading.{Read, read, stop, next, readAs, numberRead, fieldRead, rowFieldsRead, rowRead, itemsRead, rowsRead, placesRead, numbersRead, leftVerdict, lastVerdict, settled, readTable, placesBy, numbersBy}
 use Rattle.table_bytes.specs.Writing as writing
 use Rattle.lead_parts.specs.Lead as leads
 use Rattle.rule.specs.declared.rule.Grant.{Grant}
@@ -51,7 +51,7 @@ use Rattle.ordering.specs.Order.{found, orderOf}
 use Rattle.ordered_bytes.specs.OrderBytes.{listedVerdict, orderRead, orderBytes}
 use Rattle.asking.specs.Look as look
 use Rattle.outcomes.specs.Outcomes.{placeCode, refusalCode}
-use Rattle.outcomes.specs.Places.{known, ofAnOrder, ofAChain, ofAnyCall, placed, ToldOf, Told, Code-tells, Code-apart, Start-names-below, Table-start-names-below, Carry-names-below, Calls-name-below, Runs-name-below, Leads-name-below, Figures-name-below, Chains-name-below, Write-names-below, Orders-name-below, Looks-name-below, Standings-name-below}
+use Rattle.outcomes.specs.Places.{ofATable, ofAState, ofAnOrder, ofAChain, ofAnyCall, placed, ToldOf, Code-tells, Code-apart, Start-names-below, Table-start-names-below, Carry-names-below, Calls-name-below, Runs-name-below, Leads-name-below, Figures-name-below, Chains-name-below, Write-names-below, Orders-name-below, Looks-name-below, Standings-name-below}
 
 -- ---- refusals by their number
 
@@ -62,13 +62,21 @@ module _ {numbers : ℕ → Bool} where
   at-place : (limit n p : ℕ) → numbers n ≡ true → true ≡ placed n → p < limit → ToldOf numbers limit (refusalAt n p)
   at-place limit n p e some h = record { number = e; names = some; origin = refl; place = h }
 
--- a start's or that of a call on a state, an ordering's and a chain figure's, is any call's
-pub known-any : {limit : ℕ} {r : Refusal} → Told limit r → ToldOf ofAnyCall limit r
-known-any {limit} {r} t = record { number = rw (t .number); names = t .names; origin = t .origin; place = t .place }
+-- a table's, a state's, an ordering's and a chain figure's are any call's
+pub table-any : {limit : ℕ} {r : Refusal} → ToldOf ofATable limit r → ToldOf ofAnyCall limit r
+table-any {limit} {r} t = record { number = rw (t .number); names = t .names; origin = t .origin; place = t .place }
+
+pub state-any : {limit : ℕ} {r : Refusal} → ToldOf ofAState limit r → ToldOf ofAnyCall limit r
+state-any {limit} {r} t = record {
+  number = cases (ofATable (r .number)) (λ on. rw on) (λ off. rw (off, t .number));
+  names = t .names;
+  origin = t .origin;
+  place = t .place;
+}
 
 pub order-any : {limit : ℕ} {r : Refusal} → ToldOf ofAnOrder limit r → ToldOf ofAnyCall limit r
 order-any {limit} {r} t = record {
-  number = cases (known (r .number)) (λ on. rw on) (λ off. rw (off, t .number));
+  number = cases (ofATable (r .number)) (λ on. rw on) (λ off. cases (ofAState (r .number)) (λ on. rw (off, on)) (λ out. rw (off, out, t .number)));
   names = t .names;
   origin = t .origin;
   place = t .place;
@@ -76,33 +84,44 @@ order-any {limit} {r} t = record {
 
 pub chain-any : {limit : ℕ} {r : Refusal} → ToldOf ofAChain limit r → ToldOf ofAnyCall limit r
 chain-any {limit} {r} t = record {
-  number = cases (known (r .number)) (λ on. rw on) (λ off. cases (ofAnOrder (r .number)) (λ on. rw (off, on)) (λ out. rw (off, out) (t .number)));
+  number = cases (ofATable (r .number)) (λ on. rw on) (λ off. cases (ofAState (r .number)) (λ on. rw (off, on)) (λ out.
+      cases (ofAnOrder (r .number)) (λ on. rw (off, out, on)) (λ none. rw (off, out, none) (t .number))));
   names = t .names;
   origin = t .origin;
   place = t .place;
 }
 
-known-range : (n : ℕ) → known n ≡ true → (1 ≤ n) × (n ≤ 23)
-known-range n e = cases (inRange 1 14 n)
-    (λ low. let l = in-range-true 1 14 n low in (l .0, omega (arith, l .1)))
-    (λ high. let h = in-range-true 21 23 n (rw high at e) in (omega (arith, h .0), h .1))
+-- every number is 1 to 23
+abbrev InRange : ℕ → Type 0
+InRange n = (1 ≤ n) × (n ≤ 23)
 
-order-range : (n : ℕ) → ofAnOrder n ≡ true → (1 ≤ n) × (n ≤ 23)
-order-range n e = cases (inRange 1 6 n)
-    (λ low. let l = in-range-true 1 6 n low in (l .0, omega (arith, l .1)))
-    (λ more. cases (inRange 8 10 n)
-    (λ middle. let m = in-range-true 8 10 n middle in (omega (arith, m .0), omega (arith, m .1)))
-    (λ high. let h = in-range-true 14 15 n (rw (more, high) at e) in (omega (arith, h .0), omega (arith, h .1))))
+within : (low high n : ℕ) → 1 ≤ low → high ≤ 23 → inRange low high n ≡ true → InRange n
+within low high n least most e = let h = in-range-true low high n e in (omega (arith, h .0), omega (arith, h .1))
 
-chain-range : (n : ℕ) → ofAChain n ≡ true → (1 ≤ n) × (n ≤ 23)
-chain-range n e = cases (eqb n 11)
-    (λ low. let z = eqb-true n 11 low in (omega arith, omega arith))
-    (λ more. cases (eqb n 16)
-    (λ middle. let z = eqb-true n 16 middle in (omega arith, omega arith))
-    (λ high. let z = eqb-true n 23 (rw (more, high) at e) in (omega arith, omega arith)))
+equal : (k n : ℕ) → 1 ≤ k → k ≤ 23 → eqb n k ≡ true → InRange n
+equal k n least most e = let z = eqb-true n k e in (omega arith, omega arith)
 
-any-range : (n : ℕ) → ofAnyCall n ≡ true → (1 ≤ n) × (n ≤ 23)
-any-range n e = cases (known n) (known-range n) (λ off. cases (ofAnOrder n) (order-range n) (λ out. chain-range n (rw (off, out) at e)))
+table-range : (n : ℕ) → ofATable n ≡ true → InRange n
+table-range n e = cases (inRange 1 10 n) (within 1 10 n (omega arith) (omega arith)) (λ a.
+    cases (eqb n 12) (equal 12 n (omega arith) (omega arith)) (λ b.
+    cases (eqb n 14) (equal 14 n (omega arith) (omega arith)) (λ c. equal 17 n (omega arith) (omega arith) (rw (a, b, c) at e))))
+
+state-range : (n : ℕ) → ofAState n ≡ true → InRange n
+state-range n e = cases (eqb n 5) (equal 5 n (omega arith) (omega arith)) (λ a.
+    cases (eqb n 11) (equal 11 n (omega arith) (omega arith)) (λ b.
+    cases (eqb n 13) (equal 13 n (omega arith) (omega arith)) (λ c. within 21 23 n (omega arith) (omega arith) (rw (a, b, c) at e))))
+
+order-range : (n : ℕ) → ofAnOrder n ≡ true → InRange n
+order-range n e = cases (inRange 1 6 n) (within 1 6 n (omega arith) (omega arith)) (λ a.
+    cases (inRange 8 10 n) (within 8 10 n (omega arith) (omega arith)) (λ b.
+    cases (inRange 14 15 n) (within 14 15 n (omega arith) (omega arith)) (λ c. equal 17 n (omega arith) (omega arith) (rw (a, b, c) at e))))
+
+chain-range : (n : ℕ) → ofAChain n ≡ true → InRange n
+chain-range n e = cases (eqb n 11) (equal 11 n (omega arith) (omega arith)) (λ a.
+    cases (eqb n 16) (equal 16 n (omega arith) (omega arith)) (λ b. equal 23 n (omega arith) (omega arith) (rw (a, b) at e)))
+
+any-range : (n : ℕ) → ofAnyCall n ≡ true → InRange n
+any-range n e = cases (ofATable n) (table-range n) (λ a. cases (ofAState n) (state-range n) (λ b. cases (ofAnOrder n) (order-range n) (λ c. chain-range n (rw (a, b, c) at e))))
 
 place-same : (x y : Named) → placeCode x ≡ placeCode y → x ≡ y
 place-same named.Nowhere named.Nowhere e = refl
@@ -162,7 +181,7 @@ module _ (P : Refusal → Type 0) where
   refuses-each limit check h p [] few = refuses-none
   refuses-each limit check h p (x ∷ rs) few = refuses-then (check p x) (eachPlace check (suc p) rs) (h p x (omega arith)) (λ ok. refuses-each limit check h (suc p) rs (omega arith))
 
--- it holds of 1 to 6, 8 and 9, at a place that there is room for
+-- it holds of 1 to 6, 8, 9 and 17, at a place that there is room for
 pub record TableRefusals (limit : ℕ) (P : Refusal → Type 0) : Type 0 where
   pub one : P (refusal 1)
   pub two : P (refusal 2)
@@ -172,11 +191,12 @@ pub record TableRefusals (limit : ℕ) (P : Refusal → Type 0) : Type 0 where
   pub six : P (refusal 6)
   pub eight : P (refusal 8)
   pub nine : P (refusal 9)
+  pub seventeen : (p : ℕ) → p < limit → P (refusalAt 17 p)
 
 -- so it is with numbers that these are among
 table-refusals : (numbers : ℕ → Bool) (limit : ℕ) → numbers 1 ≡ true → numbers 2 ≡ true → numbers 3 ≡ true → numbers 4 ≡ true → numbers 5 ≡ true → numbers 6 ≡ true
-    → numbers 8 ≡ true → numbers 9 ≡ true → TableRefusals limit (ToldOf numbers limit)
-table-refusals numbers limit one two three four five six eight nine = record {
+    → numbers 8 ≡ true → numbers 9 ≡ true → numbers 17 ≡ true → TableRefusals limit (ToldOf numbers limit)
+table-refusals numbers limit one two three four five six eight nine seventeen = record {
   one = plain limit 1 one refl;
   two = plain limit 2 two refl;
   three = λ p h. at-place limit 3 p three refl h;
@@ -185,6 +205,7 @@ table-refusals numbers limit one two three four five six eight nine = record {
   six = plain limit 6 six refl;
   eight = plain limit 8 eight refl;
   nine = plain limit 9 nine refl;
+  seventeen = λ p h. at-place limit 17 p seventeen refl h;
 }
 
 -- as many rows as N says, at most the largest N
@@ -192,42 +213,50 @@ few-rows : (limit n : ℕ) (rs : List Requestor) → n ≤ limit → 0 + length 
 few-rows limit n rs h = omega (arith, length-take n rs)
 
 module _ (limit : ℕ) (P : Refusal → Type 0) (holds : TableRefusals limit P) where
-  refuses-row : (d p : ℕ) (x : Requestor) → p < limit → Refuses P (rowVerdict d p x)
-  unfolding rowVerdict
+  refuses-row : (d p : ℕ) (x : Requestor) → p < limit → Refuses P (fieldsVerdict d p x)
+  unfolding fieldsVerdict
   refuses-row d p x h =
       refuses-then P (heldTo (rateBounds d p) (x .rate)) _ (refuses-held P (rateBounds d p) (x .rate) (holds .three p h)) (λ a.
       refuses-then P (heldTo (burstBounds d p) (x .burst)) _ (refuses-held P (burstBounds d p) (x .burst) (holds .four p h)) (λ b.
       refuses-then P (heldTo (needBounds p) (x .need .0)) _ (refuses-held P (needBounds p) (x .need .0) (holds .five p h)) (λ c.
       refuses-held P (withinBounds p) (x .within .0) (holds .five p h))))
 
+  refuses-fit : (d p : ℕ) (x : Requestor) → p < limit → Refuses P (needFitsVerdict d p x)
+  unfolding needFitsVerdict
+  refuses-fit d p x h = refuses-gate P (refusalAt 17 p) (needFits d x) faultless (holds .seventeen p h) (refuses-none P)
+
+  refuses-offered-row : (d p : ℕ) (x : Requestor) → p < limit → Refuses P (offeredRowVerdict d p x)
+  unfolding offeredRowVerdict
+  refuses-offered-row d p x h = refuses-then P (fieldsVerdict d p x) _ (refuses-row d p x h) (λ a. refuses-fit d p x h)
+
   refuses-sum : (t : Table) → Refuses P (rateSumVerdict t)
   unfolding rateSumVerdict
   refuses-sum t = refuses-gate P (refusal 6) (leb (total rate (requestorsOf t)) (t .denominator)) faultless (holds .six) (refuses-none P)
 
-  pub refuses-table : (t : Table) → Refuses P (tableVerdict limit t)
-  unfolding tableVerdict tailVerdict
+  pub refuses-table : (t : Table) → Refuses P (offeredVerdict limit t)
+  unfolding verdictBy tailVerdict
   refuses-table t =
       refuses-then P (heldTo denominatorBounds (t .denominator)) _ (refuses-held P denominatorBounds (t .denominator) (holds .one)) (λ a.
       refuses-then P (heldTo (countBounds limit) (t .count)) _ (refuses-held P (countBounds limit) (t .count) (holds .two)) (λ n.
       refuses-then P (tailVerdict t) _ (refuses-gate P (refusal 2) (every requestorClear (drop (t .count) (t .requestors))) faultless (holds .two) (refuses-none P)) (λ b.
-      refuses-then P (eachPlace (rowVerdict (t .denominator)) 0 (requestorsOf t)) _
-      (refuses-each P limit (rowVerdict (t .denominator)) (refuses-row (t .denominator)) 0 (requestorsOf t) (few-rows limit (t .count) (t .requestors) (held-open (countBounds limit) (t .count) n .1)))
+      refuses-then P (eachPlace (offeredRowVerdict (t .denominator)) 0 (requestorsOf t)) _
+      (refuses-each P limit (offeredRowVerdict (t .denominator)) (refuses-offered-row (t .denominator)) 0 (requestorsOf t) (few-rows limit (t .count) (t .requestors) (held-open (countBounds limit) (t .count) n .1)))
       (λ c. refuses-sum t))))
 
 module _ (limit : ℕ) where
-  known-refusals : TableRefusals limit (Told limit)
-  known-refusals = table-refusals known limit refl refl refl refl refl refl refl refl
+  of-a-table : TableRefusals limit (ToldOf ofATable limit)
+  of-a-table = table-refusals ofATable limit refl refl refl refl refl refl refl refl refl
 
-  refuses-finishes : (t : Table) → t .count ≤ limit → Refuses (Told limit) (finishesVerdict t)
+  refuses-finishes : (t : Table) → t .count ≤ limit → Refuses (ToldOf ofATable limit) (finishesVerdict t)
   unfolding finishVerdict
   refuses-finishes t h =
-      refuses-each (Told limit) limit (finishVerdict (t .denominator) (requestorsOf t))
-      (λ p x few. refuses-gate (Told limit) (refusalAt 7 p) (leb (finish (t .denominator) (requestorsOf t) p (x .need .0)) (x .within .0)) faultless (at-place limit 7 p refl refl few) (refuses-none (Told limit)))
+      refuses-each (ToldOf ofATable limit) limit (finishVerdict (t .denominator) (requestorsOf t))
+      (λ p x few. refuses-gate (ToldOf ofATable limit) (refusalAt 7 p) (leb (finish (t .denominator) (requestorsOf t) p (x .need .0)) (x .within .0)) faultless (at-place limit 7 p refl refl few) (refuses-none (ToldOf ofATable limit)))
       0 (requestorsOf t) (few-rows limit (t .count) (t .requestors) h)
 
-  refuses-admission : (t : Table) → Refuses (Told limit) (admissionVerdict limit t)
+  refuses-admission : (t : Table) → Refuses (ToldOf ofATable limit) (admissionVerdict limit t)
   unfolding admissionVerdict
-  refuses-admission t = refuses-then (Told limit) (tableVerdict limit t) (finishesVerdict t) (refuses-table limit (Told limit) known-refusals t) (λ ok. refuses-finishes t (fair limit t ok .count-most))
+  refuses-admission t = refuses-then (ToldOf ofATable limit) (offeredVerdict limit t) (finishesVerdict t) (refuses-table limit (ToldOf ofATable limit) of-a-table t) (λ ok. refuses-finishes t (fair limit t (offered-passes limit t ok) .count-most))
 
 -- ---- along a reading
 
@@ -261,13 +290,18 @@ module _ (limit : ℕ) (P : Refusal → Type 0) (holds : TableRefusals limit P) 
   refuses-field b bytes h =
       refuses-next (numberRead bytes) _ (refuses-number bytes (numberOf bytes)) (λ x rest e. refuses-resolve (heldTo b x) (read x rest) (refuses-read x rest) (refuses-held P b x h))
 
-  refuses-row-read : (d p : ℕ) (bytes : List ℕ) → p < limit → ReadRefuses P (rowRead d p bytes)
-  unfolding rowRead
-  refuses-row-read d p bytes h =
+  refuses-fields-read : (d p : ℕ) (bytes : List ℕ) → p < limit → ReadRefuses P (rowFieldsRead d p bytes)
+  unfolding rowFieldsRead
+  refuses-fields-read d p bytes h =
       refuses-next (fieldRead (rateBounds d p) bytes) _ (refuses-field (rateBounds d p) bytes (holds .three p h)) (λ n l e.
       refuses-next (fieldRead (burstBounds d p) l) _ (refuses-field (burstBounds d p) l (holds .four p h)) (λ b m f.
       refuses-next (fieldRead (needBounds p) m) _ (refuses-field (needBounds p) m (holds .five p h)) (λ j k g.
       refuses-next (fieldRead (withinBounds p) k) _ (refuses-field (withinBounds p) k (holds .five p h)) (λ x o i. refuses-read _ o))))
+
+  refuses-row-read : (d p : ℕ) (bytes : List ℕ) → p < limit → ReadRefuses P (rowRead d p bytes)
+  unfolding rowRead
+  refuses-row-read d p bytes h =
+      refuses-next (rowFieldsRead d p bytes) _ (refuses-fields-read d p bytes h) (λ r rest e. refuses-resolve (needFitsVerdict d p r) (read r rest) (refuses-read r rest) (refuses-fit limit P holds d p r h))
 
   refuses-items : {X : Type 0} (item : ℕ → List ℕ → Read X) → ((p : ℕ) (bytes : List ℕ) → p < limit → ReadRefuses P (item p bytes))
       → (items p : ℕ) (bytes : List ℕ) → p + items ≤ limit → ReadRefuses P (itemsRead item items p bytes)
@@ -278,12 +312,12 @@ module _ (limit : ℕ) (P : Refusal → Type 0) (holds : TableRefusals limit P) 
       refuses-next (itemsRead item items (suc p) l) _ (refuses-items item h items (suc p) l (omega arith)) (λ xs m f. refuses-read (x ∷ xs) m))
 
   refuses-places : (d n : ℕ) (bytes : List ℕ) → n ≤ limit → ReadRefuses P (placesRead limit d n bytes)
-  unfolding placesRead
+  unfolding placesBy
   refuses-places d n bytes h =
       refuses-next (rowsRead n d 0 bytes) _ (refuses-items (rowRead d) (refuses-row-read d) n 0 bytes (omega arith)) (λ rows l e. refuses-read (tableOf limit d n rows) l)
 
   pub refuses-numbers : (bytes : List ℕ) → ReadRefuses P (numbersRead limit bytes)
-  unfolding numbersRead
+  unfolding numbersBy
   refuses-numbers bytes =
       refuses-next (fieldRead denominatorBounds bytes) _ (refuses-field denominatorBounds bytes (holds .one)) (λ d l e.
       refuses-next (fieldRead (countBounds limit) l) _ (refuses-field (countBounds limit) l (holds .two)) (λ n m f.
@@ -299,22 +333,22 @@ module _ (limit : ℕ) where
       omega (arith, taken .few)
 
   -- what a reading answers
-  refuses-settled : (x : Read Table) → ReadRefuses (Told limit) x → ((t : Table) (rest : List ℕ) → x ≡ read t rest → t .count ≤ limit)
-      → (r : Refusal) → settled limit x .answer ≡ refused r → Told limit r
+  refuses-settled : (x : Read Table) → ReadRefuses (ToldOf ofATable limit) x → ((t : Table) (rest : List ℕ) → x ≡ read t rest → t .count ≤ limit)
+      → (r : Refusal) → settled limit x .answer ≡ refused r → ToldOf ofATable limit r
   unfolding settled lastVerdict
   refuses-settled (stop q) s few r e = let same : q ≡ r = cc in rw same at (s q refl)
   refuses-settled (read t rest) s few r e =
-      let last = refuses-then (Told limit) (leftVerdict rest) _ (refuses-left (Told limit) rest (plain limit 10 refl refl)) (λ a.
-      refuses-then (Told limit) (rateSumVerdict t) (finishesVerdict t) (refuses-sum limit (Told limit) (known-refusals limit) t) (λ b. refuses-finishes limit t (few t rest refl))) in
+      let last = refuses-then (ToldOf ofATable limit) (leftVerdict rest) _ (refuses-left (ToldOf ofATable limit) rest (plain limit 10 refl refl)) (λ a.
+      refuses-then (ToldOf ofATable limit) (rateSumVerdict t) (finishesVerdict t) (refuses-sum limit (ToldOf ofATable limit) (of-a-table limit) t) (λ b. refuses-finishes limit t (few t rest refl))) in
       by (lastVerdict t rest) last e
     where
-      by : (v : Verdict) → Refuses (Told limit) v → resolve {X = TableResult} v (accept t) (refuse limit) .answer ≡ refused r → Told limit r
+      by : (v : Verdict) → Refuses (ToldOf ofATable limit) v → resolve {X = TableResult} v (accept t) (refuse limit) .answer ≡ refused r → ToldOf ofATable limit r
       by faultless h f = let z : _≡_ {A = ℕ} 0 1 = cc in absurd (omega arith)
       by (fault q) h f = let same : q ≡ r = cc in rw same at (h q refl)
 
-  refuses-answer : (bytes : List ℕ) (r : Refusal) → readTable limit bytes .answer ≡ refused r → Told limit r
+  refuses-answer : (bytes : List ℕ) (r : Refusal) → readTable limit bytes .answer ≡ refused r → ToldOf ofATable limit r
   unfolding readTable
-  refuses-answer bytes r e = refuses-settled (numbersRead limit bytes) (refuses-numbers limit (Told limit) (known-refusals limit) bytes) (few-numbers bytes) r e
+  refuses-answer bytes r e = refuses-settled (numbersRead limit bytes) (refuses-numbers limit (ToldOf ofATable limit) (of-a-table limit) bytes) (few-numbers bytes) r e
 
 -- ---- the calls
 
@@ -322,9 +356,9 @@ pub table-start-names-below : Table-start-names-below
 unfolding start startVerdict
 table-start-names-below limit t first r e =
     by (startVerdict limit t first)
-    (refuses-then (Told limit) (admissionVerdict limit t) _ (refuses-admission limit t) (λ ok. refuses-gate (Told limit) (refusal 12) (leb first maxSlot) faultless (plain limit 12 refl refl) (refuses-none (Told limit)))) e
+    (refuses-then (ToldOf ofATable limit) (admissionVerdict limit t) _ (refuses-admission limit t) (λ ok. refuses-gate (ToldOf ofATable limit) (refusal 12) (leb first maxSlot) faultless (plain limit 12 refl refl) (refuses-none (ToldOf ofATable limit)))) e
   where
-    by : (v : Verdict) → Refuses (Told limit) v → resolve {X = Result State Answer} v (record { state = opening t first; answer = accepted }) (λ q. record { state = noState limit; answer = refused q }) .answer ≡ refused r → Told limit r
+    by : (v : Verdict) → Refuses (ToldOf ofATable limit) v → resolve {X = Result State Answer} v (record { state = opening t first; answer = accepted }) (λ q. record { state = noState limit; answer = refused q }) .answer ≡ refused r → ToldOf ofATable limit r
     by faultless h f = let z : _≡_ {A = ℕ} 0 1 = cc in absurd (omega arith)
     by (fault q) h f = let same : q ≡ r = cc in rw same at (h q refl)
 
@@ -332,7 +366,7 @@ pub start-names-below : Start-names-below
 unfolding begun
 start-names-below limit bytes first r e = by (readTable limit bytes .answer) refl e
   where
-    by : (a : Answer) → readTable limit bytes .answer ≡ a → unless a (turnedDown limit) (start limit (readTable limit bytes .table) first) .answer ≡ refused r → Told limit r
+    by : (a : Answer) → readTable limit bytes .answer ≡ a → unless a (turnedDown limit) (start limit (readTable limit bytes .table) first) .answer ≡ refused r → ToldOf ofATable limit r
     by accepted h f = table-start-names-below limit (readTable limit bytes .table) first r f
     by (granted stamp p) h f = table-start-names-below limit (readTable limit bytes .table) first r f
     by (idle stamp) h f = table-start-names-below limit (readTable limit bytes .table) first r f
@@ -343,19 +377,19 @@ unfolding carry
 carry-names-below old new o r e = by (carryVerdict old o) (refuses-gate Is23 (refusal 23) (sound old (asState o)) faultless (refl, plain new 23 refl refl) (refuses-none Is23)) e
   where
     Is23 : Refusal → Type 0
-    Is23 q = (q ≡ refusal 23) × Told new q
+    Is23 q = (q ≡ refusal 23) × ToldOf ofAState new q
 
     by : (v : Verdict) → Refuses Is23 v
         → resolve {X = Result State Answer} v (record { state = longer (new - old) (asState o); answer = accepted }) (turnedDown new) .answer ≡ refused r → Is23 r
     by faultless h f = let z : _≡_ {A = ℕ} 0 1 = cc in absurd (omega arith)
     by (fault q) h f = let same : q ≡ r = cc in rw same at (h q refl)
 
-refuses-rule : (limit : ℕ) (s : State) (c : Call) → Refuses (Told limit) (ruleVerdict s c)
+refuses-rule : (limit : ℕ) (s : State) (c : Call) → Refuses (ToldOf ofAState limit) (ruleVerdict s c)
 unfolding ruleVerdict
 refuses-rule limit s (post p count) =
-    refuses-gate (Told limit) (refusal 11) (ltb p (s .table .count)) _ (plain limit 11 refl refl)
-    (refuses-gate (Told limit) (refusal 21) (leb (backlog (accountAt p (s .accounts)) + count) maxBacklog) faultless (plain limit 21 refl refl) (refuses-none (Told limit)))
-refuses-rule limit s slot = refuses-gate (Told limit) (refusal 22) (ltb (s .slot .0) maxSlot) faultless (plain limit 22 refl refl) (refuses-none (Told limit))
+    refuses-gate (ToldOf ofAState limit) (refusal 11) (ltb p (s .table .count)) _ (plain limit 11 refl refl)
+    (refuses-gate (ToldOf ofAState limit) (refusal 21) (leb (backlog (accountAt p (s .accounts)) + count) maxBacklog) faultless (plain limit 21 refl refl) (refuses-none (ToldOf ofAState limit)))
+refuses-rule limit s slot = refuses-gate (ToldOf ofAState limit) (refusal 22) (ltb (s .slot .0) maxSlot) faultless (plain limit 22 refl refl) (refuses-none (ToldOf ofAState limit))
 
 outcome-fault : (v : Verdict) (s : State) (c : Call) (r : Refusal) → outcome v s c .answer ≡ refused r → v ≡ fault r
 unfolding done
@@ -371,20 +405,20 @@ pub calls-name-below : Calls-name-below
 unfolding called
 calls-name-below limit s c r e =
     let v = gate (refusal 23) (sound limit s) (ruleVerdict s c) in
-    refuses-gate (Told limit) (refusal 23) (sound limit s) (ruleVerdict s c) (plain limit 23 refl refl) (refuses-rule limit s c) r (outcome-fault v s c r e)
+    refuses-gate (ToldOf ofAState limit) (refusal 23) (sound limit s) (ruleVerdict s c) (plain limit 23 refl refl) (refuses-rule limit s c) r (outcome-fault v s c r e)
 
-refuses-input : (limit bytes : ℕ) → Refuses (Told limit) (inputVerdict bytes)
+refuses-input : (limit bytes : ℕ) → Refuses (ToldOf ofAState limit) (inputVerdict bytes)
 unfolding inputVerdict
-refuses-input limit bytes = refuses-gate (Told limit) (refusal 13) (leb bytes maxInput) faultless (plain limit 13 refl refl) (refuses-none (Told limit))
+refuses-input limit bytes = refuses-gate (ToldOf ofAState limit) (refusal 13) (leb bytes maxInput) faultless (plain limit 13 refl refl) (refuses-none (ToldOf ofAState limit))
 
 pub runs-name-below : Runs-name-below
 unfolding run runVerdict slotsVerdict
 runs-name-below limit s log r e =
     by (runVerdict limit s (length log))
-    (refuses-gate (Told limit) (refusal 23) (sound limit s) _ (plain limit 23 refl refl)
-    (refuses-then (Told limit) (inputVerdict (length log)) _ (refuses-input limit (length log)) (λ ok. refuses-gate (Told limit) (refusal 22) (leb (s .slot .0 + length log) maxSlot) faultless (plain limit 22 refl refl) (refuses-none (Told limit))))) e
+    (refuses-gate (ToldOf ofAState limit) (refusal 23) (sound limit s) _ (plain limit 23 refl refl)
+    (refuses-then (ToldOf ofAState limit) (inputVerdict (length log)) _ (refuses-input limit (length log)) (λ ok. refuses-gate (ToldOf ofAState limit) (refusal 22) (leb (s .slot .0 + length log) maxSlot) faultless (plain limit 22 refl refl) (refuses-none (ToldOf ofAState limit))))) e
   where
-    by : (v : Verdict) → Refuses (Told limit) v → resolve {X = Outcome} v (record { state = slotsState (length log) s; answer = accepted; log = slotsLog (length log) s }) (λ q. record { state = s; answer = refused q; log = log }) .answer ≡ refused r → Told limit r
+    by : (v : Verdict) → Refuses (ToldOf ofAState limit) v → resolve {X = Outcome} v (record { state = slotsState (length log) s; answer = accepted; log = slotsLog (length log) s }) (λ q. record { state = s; answer = refused q; log = log }) .answer ≡ refused r → ToldOf ofAState limit r
     by faultless h f = let z : _≡_ {A = ℕ} 0 1 = cc in absurd (omega arith)
     by (fault q) h f = let same : q ≡ r = cc in rw same at (h q refl)
 
@@ -392,8 +426,8 @@ refuses-place : (P : Refusal → Type 0) → P (refusal 23) → P (refusal 11) �
 unfolding placeVerdict
 refuses-place P unsound absent limit s p = refuses-gate P (refusal 23) (sound limit s) _ unsound (refuses-gate P (refusal 11) (ltb p (s .table .count)) faultless absent (refuses-none P))
 
-refuses-asked : (limit : ℕ) (s : State) (p : ℕ) → Refuses (Told limit) (placeVerdict limit s p)
-refuses-asked limit = refuses-place (Told limit) (plain limit 23 refl refl) (plain limit 11 refl refl) limit
+refuses-asked : (limit : ℕ) (s : State) (p : ℕ) → Refuses (ToldOf ofAState limit) (placeVerdict limit s p)
+refuses-asked limit = refuses-place (ToldOf ofAState limit) (plain limit 23 refl refl) (plain limit 11 refl refl) limit
 
 -- past 23 and 11 there is room for as many places as the table has
 few-places : (limit : ℕ) (s : State) (p : ℕ) → placeVerdict limit s p ≡ faultless → s .table .count ≤ limit
@@ -403,12 +437,12 @@ pub figures-name-below : Figures-name-below
 unfolding asked.figures asked.figuresVerdict
 figures-name-below limit s p j r e =
     by _ _ (asked.figuresVerdict limit s p j)
-    (refuses-then (Told limit) (placeVerdict limit s p) _ (refuses-asked limit s p) (λ ok. refuses-held (Told limit) (needBounds p) j (at-place limit 5 p refl refl (few ok)))) e
+    (refuses-then (ToldOf ofAState limit) (placeVerdict limit s p) _ (refuses-asked limit s p) (λ ok. refuses-held (ToldOf ofAState limit) (needBounds p) j (at-place limit 5 p refl refl (few ok)))) e
   where
     few : placeVerdict limit s p ≡ faultless → p < limit
     few ok = omega (arith, place-open limit s p ok .1, few-places limit s p ok)
 
-    by : (x y : ℕ) (v : Verdict) → Refuses (Told limit) v → resolve v (asked.figured x y) asked.refused ≡ asked.refused r → Told limit r
+    by : (x y : ℕ) (v : Verdict) → Refuses (ToldOf ofAState limit) v → resolve v (asked.figured x y) asked.refused ≡ asked.refused r → ToldOf ofAState limit r
     by x y faultless h f = let z : _≡_ {A = ℕ} 0 1 = cc in absurd (omega arith)
     by x y (fault q) h f = let same : q ≡ r = cc in rw same at (h q refl)
 
@@ -431,9 +465,9 @@ chains-name-below limit s p names r e =
 pub leads-name-below : Leads-name-below
 unfolding leads.leadAsked leads.leadVerdict
 leads-name-below limit s p log r e =
-    by _ (leads.leadVerdict limit s p (length log)) (refuses-then (Told limit) (placeVerdict limit s p) _ (refuses-asked limit s p) (λ ok. refuses-input limit (length log))) e
+    by _ (leads.leadVerdict limit s p (length log)) (refuses-then (ToldOf ofAState limit) (placeVerdict limit s p) _ (refuses-asked limit s p) (λ ok. refuses-input limit (length log))) e
   where
-    by : (x : ℤ) (v : Verdict) → Refuses (Told limit) v → resolve v (leads.lead x) leads.refused ≡ leads.refused r → Told limit r
+    by : (x : ℤ) (v : Verdict) → Refuses (ToldOf ofAState limit) v → resolve v (leads.lead x) leads.refused ≡ leads.refused r → ToldOf ofAState limit r
     by x faultless h f = let z : _≡_ {A = ℕ} 0 1 = cc in absurd (omega arith)
     by x (fault q) h f = let same : q ≡ r = cc in rw same at (h q refl)
 
@@ -449,8 +483,8 @@ module _ (P : Refusal → Type 0) where
 pub write-names-below : Write-names-below
 unfolding writing.writeTable writing.writeVerdict
 write-names-below limit t buffer r e =
-    refuses-written (Told limit) (writing.writeVerdict limit t (length buffer)) t buffer
-    (refuses-then (Told limit) (admissionVerdict limit t) _ (refuses-admission limit t) (λ ok. refuses-room (Told limit) t (length buffer) (plain limit 14 refl refl))) r e
+    refuses-written (ToldOf ofATable limit) (writing.writeVerdict limit t (length buffer)) t buffer
+    (refuses-then (ToldOf ofATable limit) (admissionVerdict limit t) _ (refuses-admission limit t) (λ ok. refuses-room (ToldOf ofATable limit) t (length buffer) (plain limit 14 refl refl))) r e
 
 -- an ordering: what is read of its bytes, 10, 6, 15, and then the writer's
 module _ (limit : ℕ) where
@@ -458,7 +492,7 @@ module _ (limit : ℕ) where
   OrderTold r = ToldOf ofAnOrder limit r
 
   order-refusals : TableRefusals limit OrderTold
-  order-refusals = table-refusals ofAnOrder limit refl refl refl refl refl refl refl refl
+  order-refusals = table-refusals ofAnOrder limit refl refl refl refl refl refl refl refl refl
 
   refuses-found : (t : Table) (o : Option (List Requestor)) (r : Refusal) → found limit t o .answer ≡ refused r → OrderTold r
   refuses-found t option.none r e = refuses-fault OrderTold (refusal 15) (plain limit 15 refl refl) r (let same : refusal 15 ≡ r = cc in ap fault same)
@@ -499,7 +533,7 @@ orders-name-below limit bytes buffer r e = by (orderRead limit (numbersRead limi
         let same : q ≡ r = cc in refuses-order-read limit (numbersRead limit bytes) (refuses-numbers limit (OrderTold limit) (order-refusals limit) bytes) r (h ∙ ap refused same)
 
 -- a question that its checks turn down
-refuses-told : {X : Type 0} (limit : ℕ) (x : X) (v : Verdict) → Refuses (Told limit) v → (r : Refusal) → resolve v (look.told x) look.refused ≡ look.refused r → Told limit r
+refuses-told : {X : Type 0} (limit : ℕ) (x : X) (v : Verdict) → Refuses (ToldOf ofAState limit) v → (r : Refusal) → resolve v (look.told x) look.refused ≡ look.refused r → ToldOf ofAState limit r
 refuses-told limit x faultless h r f = let z : _≡_ {A = ℕ} 0 1 = cc in absurd (omega arith)
 refuses-told limit x (fault q) h r f = let same : q ≡ r = cc in rw same at (h q refl)
 
@@ -510,4 +544,4 @@ looks-name-below limit s p r e = refuses-told limit _ (placeVerdict limit s p) (
 pub standings-name-below : Standings-name-below
 unfolding look.standing
 standings-name-below limit s r e =
-    refuses-told limit _ (gate (refusal 23) (sound limit s) faultless) (refuses-gate (Told limit) (refusal 23) (sound limit s) faultless (plain limit 23 refl refl) (refuses-none (Told limit))) r e
+    refuses-told limit _ (gate (refusal 23) (sound limit s) faultless) (refuses-gate (ToldOf ofAState limit) (refusal 23) (sound limit s) faultless (plain limit 23 refl refl) (refuses-none (ToldOf ofAState limit))) r e

@@ -1,6 +1,6 @@
--- A refusal of any call has one of the papers' numbers, the cause that goes with it, and a place exactly where it is 3, 4, 5, 7 or 16: one
--- that there is room for. So an outcome tells the refusal; 0 is no refusal, and 255 is none of theirs. An ordering and a chain figure have
--- numbers of their own.
+-- A refusal of any call has one of the papers' numbers, the cause that goes with it, and a place exactly where it is 3, 4, 5, 7, 16 or 17: one
+-- that there is room for. So an outcome tells the refusal; 0 is no refusal, and 255 is none of theirs. What looks at a table that is handed in,
+-- what serves a state, an ordering and a chain figure have numbers of their own.
 use mathlib.Core.Path.{_≡_}
 use mathlib.Core.Bool.{Bool, true, false}
 use lib.Dec.{eqb}
@@ -32,13 +32,17 @@ abbrev pub Below : ℕ → Named → Type 0
 Below limit named.Nowhere = Unit {0}
 Below limit (named.Place p) = p < limit
 
--- the numbers of a start's refusals and of those of any other call on a state: 1 to 14 and 21 to 23
-abbrev pub known : ℕ → Bool
-known n = pick (inRange 1 14 n) true (inRange 21 23 n)
+-- the numbers of a start's refusals and of a table's writer: 1 to 10, 12, 14 and 17; none that a state causes
+abbrev pub ofATable : ℕ → Bool
+ofATable n = pick (inRange 1 10 n) true (pick (eqb n 12) true (pick (eqb n 14) true (eqb n 17)))
 
--- of an ordering's: 1 to 6, 8 to 10, 14 and 15; never 7, and none that a state causes
+-- of a call on a state, be it a post, a slot, a run, a lead, a figure or a look: 5, 11, 13, and 21 to 23; never 17, nor any other of a table
+abbrev pub ofAState : ℕ → Bool
+ofAState n = pick (eqb n 5) true (pick (eqb n 11) true (pick (eqb n 13) true (inRange 21 23 n)))
+
+-- of an ordering's: 1 to 6, 8 to 10, 14, 15 and 17; never 7, and none that a state causes
 abbrev pub ofAnOrder : ℕ → Bool
-ofAnOrder n = pick (inRange 1 6 n) true (pick (inRange 8 10 n) true (inRange 14 15 n))
+ofAnOrder n = pick (inRange 1 6 n) true (pick (inRange 8 10 n) true (pick (inRange 14 15 n) true (eqb n 17)))
 
 -- of a chain figure's: 11, 16 and 23
 abbrev pub ofAChain : ℕ → Bool
@@ -46,11 +50,11 @@ ofAChain n = pick (eqb n 11) true (pick (eqb n 16) true (eqb n 23))
 
 -- of any call's
 abbrev pub ofAnyCall : ℕ → Bool
-ofAnyCall n = pick (known n) true (pick (ofAnOrder n) true (ofAChain n))
+ofAnyCall n = pick (ofATable n) true (pick (ofAState n) true (pick (ofAnOrder n) true (ofAChain n)))
 
 -- those that name a place
 abbrev pub placed : ℕ → Bool
-placed n = pick (inRange 3 5 n) true (pick (eqb n 7) true (eqb n 16))
+placed n = pick (inRange 3 5 n) true (pick (eqb n 7) true (inRange 16 17 n))
 
 abbrev pub namesPlace : Named → Bool
 namesPlace named.Nowhere = false
@@ -63,9 +67,6 @@ pub record ToldOf (numbers : ℕ → Bool) (limit : ℕ) (r : Refusal) : Type 0 
   pub origin : r .origin ≡ originOf (r .number)
   pub place : Below limit (r .place)
 
-abbrev pub Told : ℕ → Refusal → Type 0
-Told limit r = ToldOf known limit r
-
 -- two refusals with one outcome are one refusal, and it is neither 0 nor 255
 abbrev pub Code-tells : Type 0
 Code-tells = (limit : ℕ) (r q : Refusal) → ToldOf ofAnyCall limit r → ToldOf ofAnyCall limit q → refusalCode r ≡ refusalCode q → r ≡ q
@@ -75,29 +76,29 @@ Code-apart = (limit : ℕ) (r : Refusal) → ToldOf ofAnyCall limit r → (refus
 
 abbrev pub Start-names-below : Type 0
 Start-names-below =
-    (limit : ℕ) (bytes : List ℕ) (first : ℕ) (r : Refusal) → begun limit (readTable limit bytes) first .answer ≡ refused r → Told limit r
+    (limit : ℕ) (bytes : List ℕ) (first : ℕ) (r : Refusal) → begun limit (readTable limit bytes) first .answer ≡ refused r → ToldOf ofATable limit r
 
 -- a start of a table, whatever it was given by
 abbrev pub Table-start-names-below : Type 0
-Table-start-names-below = (limit : ℕ) (t : Table) (first : ℕ) (r : Refusal) → start limit t first .answer ≡ refused r → Told limit r
+Table-start-names-below = (limit : ℕ) (t : Table) (first : ℕ) (r : Refusal) → start limit t first .answer ≡ refused r → ToldOf ofATable limit r
 
 -- a carrying over: 23 alone
 abbrev pub Carry-names-below : Type 0
-Carry-names-below = (old new : ℕ) (o : OldState) (r : Refusal) → carry old new o .answer ≡ refused r → (r ≡ refusal 23) × Told new r
+Carry-names-below = (old new : ℕ) (o : OldState) (r : Refusal) → carry old new o .answer ≡ refused r → (r ≡ refusal 23) × ToldOf ofAState new r
 
 -- a post or a slot
 abbrev pub Calls-name-below : Type 0
-Calls-name-below = (limit : ℕ) (s : State) (c : Call) (r : Refusal) → called limit s c .answer ≡ refused r → Told limit r
+Calls-name-below = (limit : ℕ) (s : State) (c : Call) (r : Refusal) → called limit s c .answer ≡ refused r → ToldOf ofAState limit r
 
 abbrev pub Runs-name-below : Type 0
-Runs-name-below = (limit : ℕ) (s : State) (log : List ℕ) (r : Refusal) → run limit s log .answer ≡ refused r → Told limit r
+Runs-name-below = (limit : ℕ) (s : State) (log : List ℕ) (r : Refusal) → run limit s log .answer ≡ refused r → ToldOf ofAState limit r
 
 abbrev pub Leads-name-below : Type 0
 Leads-name-below =
-    (limit : ℕ) (s : State) (p : ℕ) (log : List ℕ) (r : Refusal) → leads.leadAsked limit s p log ≡ leads.refused r → Told limit r
+    (limit : ℕ) (s : State) (p : ℕ) (log : List ℕ) (r : Refusal) → leads.leadAsked limit s p log ≡ leads.refused r → ToldOf ofAState limit r
 
 abbrev pub Figures-name-below : Type 0
-Figures-name-below = (limit : ℕ) (s : State) (p j : ℕ) (r : Refusal) → asked.figures limit s p j ≡ asked.refused r → Told limit r
+Figures-name-below = (limit : ℕ) (s : State) (p j : ℕ) (r : Refusal) → asked.figures limit s p j ≡ asked.refused r → ToldOf ofAState limit r
 
 abbrev pub Chains-name-below : Type 0
 Chains-name-below =
@@ -105,13 +106,13 @@ Chains-name-below =
 
 abbrev pub Write-names-below : Type 0
 Write-names-below =
-    (limit : ℕ) (t : Table) (buffer : List ℕ) (r : Refusal) → writing.writeTable limit t buffer .answer ≡ writing.refused r → Told limit r
+    (limit : ℕ) (t : Table) (buffer : List ℕ) (r : Refusal) → writing.writeTable limit t buffer .answer ≡ writing.refused r → ToldOf ofATable limit r
 
 abbrev pub Orders-name-below : Type 0
 Orders-name-below = (limit : ℕ) (bytes buffer : List ℕ) (r : Refusal) → orderBytes limit bytes buffer .answer ≡ writing.refused r → ToldOf ofAnOrder limit r
 
 abbrev pub Looks-name-below : Type 0
-Looks-name-below = (limit : ℕ) (s : State) (p : ℕ) (r : Refusal) → look.accountAsked limit s p ≡ look.refused r → Told limit r
+Looks-name-below = (limit : ℕ) (s : State) (p : ℕ) (r : Refusal) → look.accountAsked limit s p ≡ look.refused r → ToldOf ofAState limit r
 
 abbrev pub Standings-name-below : Type 0
-Standings-name-below = (limit : ℕ) (s : State) (r : Refusal) → look.standing limit s ≡ look.refused r → Told limit r
+Standings-name-below = (limit : ℕ) (s : State) (r : Refusal) → look.standing limit s ≡ look.refused r → ToldOf ofAState limit r

@@ -14,13 +14,13 @@ use Rattle.groups.specs.Inverse.{Bytes}
 use Rattle.groups.proofs.Inverse.{bytes-append, five-bytes}
 use Rattle.groups.proofs.Inverse as groups
 use Rattle.terms.specs.declared.place.Requestor.{Requestor}
-use Rattle.terms.specs.Table.{Table, rowNumbers, requestorsOf, tableOf, Bounds, denominatorBounds, countBounds, rateBounds, burstBounds, needBounds, withinBounds, heldTo, rowVerdict, eachPlace}
+use Rattle.terms.specs.Table.{Table, rowNumbers, requestorsOf, tableOf, Bounds, denominatorBounds, countBounds, rateBounds, burstBounds, needBounds, withinBounds, heldTo, fieldsVerdict, offeredRowVerdict, eachPlace, offeredVerdict}
 use Rattle.terms.specs.Refusals.{Verdict, faultless, fault, gate, then, resolve}
 use Rattle.terms.specs.Figures.{admissionVerdict}
 use Rattle.terms.specs.TableResult.{accept}
-use Rattle.terms.proofs.Checks.{then-open, held-open, Passed, passed, admitted}
+use Rattle.terms.proofs.Checks.{then-open, held-open, Passed, passed}
 use Rattle.terms.proofs.Tables.{table-rows, table-whole}
-use Rattle.table_bytes.specs.Reading.{read, next, fieldRead, itemsRead, rowRead, rowsRead, placesRead, numbersRead, readTable}
+use Rattle.table_bytes.specs.Reading.{read, next, fieldRead, itemsRead, rowFieldsRead, rowRead, rowsRead, numbersRead, readTable, placesBy, numbersBy}
 use Rattle.table_bytes.specs.Writing.{tableNumbers, tableBytes, writeVerdict, wrote, refused, TableWritten, writeTable}
 use Rattle.table_bytes.proofs.Opened.{Taken, table-open, read-on}
 use Rattle.round_trip.specs.RoundTrip.{Bytes-read-back, Written-reads-back, Read-writes-back}
@@ -40,10 +40,10 @@ none-left : (rest : List ℕ) → joined numberBytes [] ++ rest ≡ rest
 unfolding joined
 none-left rest = refl
 
-row-reads : (d p : ℕ) (r : Requestor) (rest : List ℕ) → d ≤ maxNumber → rowVerdict d p r ≡ faultless
-    → rowRead d p (joined numberBytes (rowNumbers r) ++ rest) ≡ read r rest
-unfolding rowRead next rowVerdict
-row-reads d p r rest small ok =
+row-fields-read : (d p : ℕ) (r : Requestor) (rest : List ℕ) → d ≤ maxNumber → fieldsVerdict d p r ≡ faultless
+    → rowFieldsRead d p (joined numberBytes (rowNumbers r) ++ rest) ≡ read r rest
+unfolding rowFieldsRead next fieldsVerdict
+row-fields-read d p r rest small ok =
     let n = then-open _ _ ok in
     let b = then-open _ _ (n .1) in
     let j = then-open _ _ (b .1) in
@@ -55,7 +55,12 @@ row-reads d p r rest small ok =
       none-left rest,
     )
 
-rows-reads : (d p : ℕ) (rows : List Requestor) (rest : List ℕ) → d ≤ maxNumber → eachPlace (rowVerdict d) p rows ≡ faultless
+row-reads : (d p : ℕ) (r : Requestor) (rest : List ℕ) → d ≤ maxNumber → offeredRowVerdict d p r ≡ faultless
+    → rowRead d p (joined numberBytes (rowNumbers r) ++ rest) ≡ read r rest
+unfolding rowRead next offeredRowVerdict
+row-reads d p r rest small ok = let (row, fits) = then-open _ _ ok in rw (row-fields-read d p r rest small row, fits)
+
+rows-reads : (d p : ℕ) (rows : List Requestor) (rest : List ℕ) → d ≤ maxNumber → eachPlace (offeredRowVerdict d) p rows ≡ faultless
     → rowsRead (length rows) d p (joined numberBytes (joined rowNumbers rows) ++ rest) ≡ read rows rest
 unfolding itemsRead next joined eachPlace
 rows-reads d p [] rest small ok = refl
@@ -68,8 +73,8 @@ rows-reads d p (r ∷ rows) rest small ok =
       rows-reads d (suc p) rows rest small (checked .1),
     )
 
-table-numbers-read : (limit : ℕ) (t : Table) → limit ≤ maxNumber → length (t .requestors) ≡ limit → Passed limit t → numbersRead limit (tableBytes t ++ []) ≡ read t []
-unfolding numbersRead placesRead next tableBytes tableNumbers
+table-numbers-read : (limit : ℕ) (t : Table) → limit ≤ maxNumber → length (t .requestors) ≡ limit → Passed offeredRowVerdict limit t → numbersRead limit (tableBytes t ++ []) ≡ read t []
+unfolding numbersBy placesBy next tableBytes tableNumbers
 table-numbers-read limit t small long ok =
     let few : t .count ≤ length (t .requestors) = omega (arith, held-open (countBounds limit) (t .count) (ok .count) .1) in
     let rows = rows-reads (t .denominator) 0 (requestorsOf t) [] (omega (arith, held-open denominatorBounds (t .denominator) (ok .denominator) .1)) (ok .rows) in
@@ -82,10 +87,15 @@ table-numbers-read limit t small long ok =
     )
     (ap (λ x. read x []) whole)
 
+-- all of admission but 7
+offered : (limit : ℕ) (t : Table) → admissionVerdict limit t ≡ faultless → offeredVerdict limit t ≡ faultless
+unfolding admissionVerdict
+offered limit t ok = then-open _ _ ok .0
+
 table-reads : (limit : ℕ) (t : Table) → limit ≤ maxNumber → length (t .requestors) ≡ limit → admissionVerdict limit t ≡ faultless
     → readTable limit (tableBytes t) ≡ accept t
 table-reads limit t small long ok =
-    let p = passed limit t (admitted limit t ok .passes) in
+    let p = passed offeredRowVerdict limit t (offered limit t ok) in
     read-on limit (tableBytes t) t (ap (numbersRead limit) (sym (append-nil (tableBytes t))) ∙ table-numbers-read limit t small long p) ok
 
 -- ---- in bytes
@@ -94,12 +104,12 @@ field-bytes : (b : Bounds) (x : ℕ) (more : List ℕ) → b .high ≤ maxNumber
 unfolding joined
 field-bytes b x more small held all = bytes-append (numberBytes x) (joined numberBytes more) (five-bytes x (omega (arith, held-open b x held .1)) .0) all
 
-rows-bytes : (d p : ℕ) (rows : List Requestor) → d ≤ maxNumber → eachPlace (rowVerdict d) p rows ≡ faultless → Bytes (joined numberBytes (joined rowNumbers rows))
-unfolding joined eachPlace rowVerdict
+rows-bytes : (d p : ℕ) (rows : List Requestor) → d ≤ maxNumber → eachPlace (offeredRowVerdict d) p rows ≡ faultless → Bytes (joined numberBytes (joined rowNumbers rows))
+unfolding joined eachPlace offeredRowVerdict fieldsVerdict
 rows-bytes d p [] small ok = λ i. omega arith
 rows-bytes d p (r ∷ rows) small ok =
     let checked = then-open _ _ ok in
-    let n = then-open _ _ (checked .0) in
+    let n = then-open _ _ (then-open _ _ (checked .0) .0) in
     let b = then-open _ _ (n .1) in
     let j = then-open _ _ (b .1) in
     let more = joined rowNumbers rows in
@@ -108,7 +118,7 @@ rows-bytes d p (r ∷ rows) small ok =
     (field-bytes (needBounds p) (r .need .0) (r .within .0 ∷ more) (omega arith) (j .0)
     (field-bytes (withinBounds p) (r .within .0) more (omega arith) (j .1) (rows-bytes d (suc p) rows small (checked .1)))))
 
-table-bytes-are : (limit : ℕ) (t : Table) → limit ≤ maxNumber → Passed limit t → Bytes (tableBytes t)
+table-bytes-are : (limit : ℕ) (t : Table) → limit ≤ maxNumber → Passed offeredRowVerdict limit t → Bytes (tableBytes t)
 unfolding tableBytes tableNumbers
 table-bytes-are limit t small ok =
     let rows = joined rowNumbers (requestorsOf t) in
@@ -117,7 +127,7 @@ table-bytes-are limit t small ok =
     (field-bytes (countBounds limit) (t .count) rows small (ok .count) (rows-bytes (t .denominator) 0 (requestorsOf t) fits (ok .rows)))
 
 pub bytes-read-back : Bytes-read-back
-bytes-read-back limit t small long ok = (table-bytes-are limit t small (passed limit t (admitted limit t ok .passes)), table-reads limit t small long ok)
+bytes-read-back limit t small long ok = (table-bytes-are limit t small (passed offeredRowVerdict limit t (offered limit t ok)), table-reads limit t small long ok)
 
 -- ---- an accepted writing
 

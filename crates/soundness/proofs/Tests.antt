@@ -9,7 +9,7 @@ use lib.ListN.{length, drop, getD}
 use Rattle.lists.specs.Choices.{inRange}
 use Rattle.lists.specs.Sums.{total, every}
 use Rattle.lists.proofs.Tests.{and-false, in-range-true}
-use Rattle.terms.specs.Table.{Table, rate, denominatorBounds, countBounds, heldTo, requestorClear, requestorsOf, rowVerdict, eachPlace, tailVerdict, rateSumVerdict, tableVerdict}
+use Rattle.terms.specs.Table.{Table, rate, denominatorBounds, countBounds, heldTo, requestorClear, requestorsOf, fieldsVerdict, eachPlace, tailVerdict, rateSumVerdict, verdictBy, tableVerdict}
 use Rattle.terms.specs.State.{State, accountClear, isFaultless, accountsHold, sound}
 use Rattle.terms.specs.Limits.{maxDenominator, maxSlot}
 use Rattle.terms.specs.Refusals.{then}
@@ -24,14 +24,14 @@ table-test : (limit : ℕ) (t : Table)
     ≡ (inRange 1 maxDenominator (t .denominator)
     && (inRange 1 limit (t .count)
     && (every requestorClear (drop (t .count) (t .requestors))
-    && (isFaultless (eachPlace (rowVerdict (t .denominator)) 0 (requestorsOf t))
+    && (isFaultless (eachPlace (fieldsVerdict (t .denominator)) 0 (requestorsOf t))
     && leb (total rate (requestorsOf t)) (t .denominator)))))
-unfolding tableVerdict tailVerdict rateSumVerdict
+unfolding verdictBy tailVerdict rateSumVerdict
 table-test limit t =
     let d = heldTo denominatorBounds (t .denominator) in
     let n = heldTo (countBounds limit) (t .count) in
     let tail = tailVerdict t in
-    let rows = eachPlace (rowVerdict (t .denominator)) 0 (requestorsOf t) in
+    let rows = eachPlace (fieldsVerdict (t .denominator)) 0 (requestorsOf t) in
     let sum = rateSumVerdict t in
     both d (then n (then tail (then rows sum)))
     ∙ rw (
@@ -71,7 +71,7 @@ module _ (limit : ℕ) (s : State) where
       rw (table-test limit (s .table)) (regroup
       (inRange 1 maxDenominator (s .table .denominator)) (inRange 1 limit n)
       (every requestorClear (drop n (s .table .requestors)))
-      (isFaultless (eachPlace (rowVerdict (s .table .denominator)) 0 (requestorsOf (s .table))))
+      (isFaultless (eachPlace (fieldsVerdict (s .table .denominator)) 0 (requestorsOf (s .table))))
       (leb (total rate (requestorsOf (s .table))) (s .table .denominator))
       (leb (s .slot .0) maxSlot) (accountsHold n (s .table .requestors) (s .accounts)) (every accountClear (drop n (s .accounts))))
 

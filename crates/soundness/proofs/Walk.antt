@@ -16,7 +16,7 @@ use Rattle.terms.specs.declared.place.Requestor.{Requestor}
 use Rattle.terms.specs.declared.place.Account.{Account}
 use Rattle.terms.specs.Limits.{maxDenominator, maxBurst}
 use Rattle.terms.specs.Refusals.{Verdict, faultless, fault}
-use Rattle.terms.specs.Table.{rate, burst, noRequestor, rowVerdict, eachPlace}
+use Rattle.terms.specs.Table.{rate, burst, noRequestor, fieldsVerdict, eachPlace}
 use Rattle.terms.specs.State.{credit, noAccount, backlogFits, creditsHold, isFaultless, accountsHold}
 use Rattle.terms.proofs.Checks.{Row, row-open}
 use Rattle.terms.proofs.Places.{each-pass, each-stop, each-end}
@@ -27,7 +27,7 @@ module _ (d n : ℕ) (rs : List Requestor) (accounts : List Account) where
   -- after p places: what is left to check of the rows, what the bursts leave after the credits, and that every test so far passed
   pub record Held (rates room p : ℕ) : Type 0 where
     pub below : p ≤ n
-    pub rows : eachPlace (rowVerdict d) 0 (take n rs) ≡ eachPlace (rowVerdict d) p (drop p (take n rs))
+    pub rows : eachPlace (fieldsVerdict d) 0 (take n rs) ≡ eachPlace (fieldsVerdict d) p (drop p (take n rs))
     pub backlogs : every backlogFits (take p accounts) ≡ true
     pub sums : upTo p (creditsHold rs accounts) ≡ true
     pub room-is : room + total credit (take p accounts) ≡ total burst (take p rs)
@@ -51,9 +51,9 @@ module _ (d n : ℕ) (rs : List Requestor) (accounts : List Account) where
   -- the row and the account of the next place
   module _ (rows-long : n ≤ length rs) (accounts-long : n ≤ length accounts) (rates room p : ℕ) (v : Held rates room p) (h : p < n)
       (r : Requestor) (a : Account) (er : getD rs p noRequestor ≡ r) (ea : getD accounts p noAccount ≡ a) where
-    row-stops : (w : Verdict) → rowVerdict d p r ≡ w → isFaultless w ≡ false → isFaultless (eachPlace (rowVerdict d) 0 (take n rs)) ≡ false
+    row-stops : (w : Verdict) → fieldsVerdict d p r ≡ w → isFaultless w ≡ false → isFaultless (eachPlace (fieldsVerdict d) 0 (take n rs)) ≡ false
     row-stops faultless e f = true-false f
-    row-stops (fault x) e f = ap isFaultless (v .rows ∙ each-stop (rowVerdict d) rs n p rows-long h x (ap (rowVerdict d p) er ∙ e))
+    row-stops (fault x) e f = ap isFaultless (v .rows ∙ each-stop (fieldsVerdict d) rs n p rows-long h x (ap (fieldsVerdict d p) er ∙ e))
 
     backlog-stops : backlogFits a ≡ false → accountsHold n rs accounts ≡ false
     unfolding accountsHold
@@ -62,12 +62,12 @@ module _ (d n : ℕ) (rs : List Requestor) (accounts : List Account) where
         rw (every-fails backlogFits noAccount (take n accounts) p inside (rw (getD-take n accounts p noAccount h, ea) f))
 
     -- a place that breaks a rule
-    pub place-stops : (isFaultless (rowVerdict d p r) && backlogFits a) ≡ false → false ≡ placesHold d n rs accounts
+    pub place-stops : (isFaultless (fieldsVerdict d p r) && backlogFits a) ≡ false → false ≡ placesHold d n rs accounts
     unfolding placesHold
-    place-stops e = cases (isFaultless (rowVerdict d p r))
+    place-stops e = cases (isFaultless (fieldsVerdict d p r))
         (λ f. let g : backlogFits a ≡ false = rw f at e in
-        sym (and-false (isFaultless (eachPlace (rowVerdict d) 0 (take n rs))) _ (rw (backlog-stops g))))
-        (λ f. sym (rw (row-stops (rowVerdict d p r) refl f)))
+        sym (and-false (isFaultless (eachPlace (fieldsVerdict d) 0 (take n rs))) _ (rw (backlog-stops g))))
+        (λ f. sym (rw (row-stops (fieldsVerdict d p r) refl f)))
 
     -- a credit above what the bursts leave
     pub credit-stops : room + r .burst < a .credit → false ≡ placesHold d n rs accounts
@@ -79,23 +79,23 @@ module _ (d n : ℕ) (rs : List Requestor) (accounts : List Account) where
         lt-leb (total credit (take (suc p) accounts)) (total burst (take (suc p) rs)) (omega (arith, credits, bursts, v .room-is, ap credit ea, ap burst er)) in
         let fails = up-to-fails (creditsHold rs accounts) n (suc p) (omega arith) (omega arith) over in
         let held = and-false (every backlogFits (take n accounts)) (upTo n (creditsHold rs accounts)) fails in
-        sym (and-false (isFaultless (eachPlace (rowVerdict d) 0 (take n rs))) _ (rw held))
+        sym (and-false (isFaultless (eachPlace (fieldsVerdict d) 0 (take n rs))) _ (rw held))
 
     -- one place more
-    pub held-row : (isFaultless (rowVerdict d p r) && backlogFits a) ≡ true → Row d r
-    held-row e = row-open d p r (is-faultless-true (rowVerdict d p r) (and-true _ _ e .0))
+    pub held-row : (isFaultless (fieldsVerdict d p r) && backlogFits a) ≡ true → Row d r
+    held-row e = row-open d p r (is-faultless-true (fieldsVerdict d p r) (and-true _ _ e .0))
 
-    pub held-more : d ≤ maxDenominator → (isFaultless (rowVerdict d p r) && backlogFits a) ≡ true → a .credit ≤ room + r .burst
+    pub held-more : d ≤ maxDenominator → (isFaultless (fieldsVerdict d p r) && backlogFits a) ≡ true → a .credit ≤ room + r .burst
         → Held (rates + r .rate) (room + r .burst - a .credit) (p + 1)
     unfolding upTo
     held-more few e l =
-        let b = and-true (isFaultless (rowVerdict d p r)) _ e in
+        let b = and-true (isFaultless (fieldsVerdict d p r)) _ e in
         let row = held-row e in
         let cs = total-take-suc credit noAccount refl p accounts in
         let bs = total-take-suc burst noRequestor refl p rs in
         let ns = total-take-suc rate noRequestor refl p rs in
-        let rest : eachPlace (rowVerdict d) 0 (take n rs) ≡ eachPlace (rowVerdict d) (p + 1) (drop (p + 1) (take n rs)) =
-        v .rows ∙ each-pass (rowVerdict d) rs n p rows-long h (ap (rowVerdict d p) er ∙ is-faultless-true (rowVerdict d p r) (b .0)) in
+        let rest : eachPlace (fieldsVerdict d) 0 (take n rs) ≡ eachPlace (fieldsVerdict d) (p + 1) (drop (p + 1) (take n rs)) =
+        v .rows ∙ each-pass (fieldsVerdict d) rs n p rows-long h (ap (fieldsVerdict d p) er ∙ is-faultless-true (fieldsVerdict d p r) (b .0)) in
         let left : room + r .burst - a .credit + total credit (take (suc p) accounts) ≡ total burst (take (suc p) rs) = omega (arith, cs, bs, v .room-is, ap credit ea, ap burst er) in
         let sum : rates + r .rate ≡ total rate (take (suc p) rs) = omega (arith, ns, v .rates-are, ap rate er) in
         let holds = le-leb (total credit (take (suc p) accounts)) (total burst (take (suc p) rs)) (omega arith) in
@@ -115,5 +115,5 @@ module _ (d n : ℕ) (rs : List Requestor) (accounts : List Account) where
   unfolding placesHold accountsHold
   held-end rates room p v h =
       let all : p ≡ n = omega (arith, v .below) in
-      let rows : isFaultless (eachPlace (rowVerdict d) 0 (take n rs)) ≡ true = ap isFaultless (v .rows ∙ each-end (rowVerdict d) rs n p h) in
+      let rows : isFaultless (eachPlace (fieldsVerdict d) 0 (take n rs)) ≡ true = ap isFaultless (v .rows ∙ each-end (fieldsVerdict d) rs n p h) in
       rw (rows, ← all, v .backlogs, v .sums, v .rates-are)

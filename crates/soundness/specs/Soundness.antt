@@ -8,11 +8,11 @@ use lib.ListN.{take}
 use Rattle.lists.specs.Sums.{total}
 use Rattle.terms.specs.declared.place.Requestor.{Requestor}
 use Rattle.terms.specs.declared.place.Account.{Account}
-use Rattle.terms.specs.Table.{rate, rowVerdict, eachPlace}
+use Rattle.terms.specs.Table.{rate, stateRowVerdict, eachPlace}
 use Rattle.terms.specs.State.{isFaultless, accountsHold}
 
 unfoldable pub placesHold : (d n : ℕ) → List Requestor → List Account → Bool
 placesHold d n rs accounts =
-    isFaultless (eachPlace (rowVerdict d) 0 (take n rs))
+    isFaultless (eachPlace (stateRowVerdict d) 0 (take n rs))
     && (accountsHold n rs accounts
     && leb (total rate (take n rs)) d)

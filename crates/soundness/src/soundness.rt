@@ -1,6 +1,6 @@
 // Test 23: one walk over the table's places, and then every word past them.
 use arbiter::bounds::denominator_bounds;
-use arbiter::rows::row_holds;
+use arbiter::rows::fields_hold;
 use arbiter::state::Arbiter;
 use layout::words::account;
 use layout::words::count;
@@ -15,17 +15,17 @@ ghost use mathlib.Core.Path.{_≡_};
 ghost use mathlib.Core.Bool.{true, _&&_};
 ghost use Prim.Native.Nat.{_≤_};
 ghost use Rattle.terms.specs.Limits.{maxPlaces, maxDenominator};
-ghost use Rattle.terms.specs.Table.{rowVerdict};
+ghost use Rattle.terms.specs.Table.{stateRowVerdict};
 ghost use Rattle.terms.specs.State.{backlogFits, isFaultless, sound};
 ghost use Rattle.layout.specs.Words.{roomOf, rightLength, stateOf};
 ghost use Rattle.soundness.specs.Soundness.{placesHold};
 
 // Its checks, and its backlog's limit.
 fn place_holds(d: u64, p: usize, r: Requestor, a: Account) -> bool
-    ensures { λ b. ⌜ b ≡ (isFaultless (rowVerdict d p r) && backlogFits a) ⌝ }
+    ensures { λ b. ⌜ b ≡ (isFaultless (stateRowVerdict d p r) && backlogFits a) ⌝ }
 {
     let q = a.backlog;
-    if !row_holds(d, p, r) {
+    if !fields_hold(d, p, r) {
         return false;
     }
     q.0 <= Arbiter::MAX_BACKLOG

@@ -37,7 +37,7 @@ module _ (room : ℕ) (bytes : List ℕ) (first : ℕ) where
       by (at-number whole) = rw whole
       by (left-over t rest whole fails) = rw (whole, fails (then (rateSumVerdict t) (finishesVerdict t)))
 
-  -- the checks of a start, of which 1 to 5 pass
+  -- the checks of a start, of which 1 to 5 and 17 pass
   pub begun-all : (t : Table) → complete t ≡ laid (numbersRead room bytes) → start room t first ≡ begun room (readTable room bytes) first
   unfolding readTable settled lastVerdict admissionVerdict gate then
   begun-all t e =

@@ -11,7 +11,7 @@ use Rattle.terms.specs.declared.place.Requestor.{Requestor}
 use Rattle.terms.specs.Table.{Table, tableOf, countBounds, heldTo}
 use Rattle.terms.specs.Refusals.{Verdict, faultless, fault, refusal, gate, then, resolve}
 use Rattle.terms.proofs.Checks.{held-open}
-use Rattle.table_bytes.specs.Reading.{Read, read, stop, next, rowRead, leftVerdict, placesRead}
+use Rattle.table_bytes.specs.Reading.{Read, read, stop, next, rowRead, leftVerdict, placesRead, placesBy}
 use Rattle.table_bytes.proofs.Readings.{Sofar, sofar-none, sofar-next, done-stop, done-end}
 use Rattle.layout.specs.Words.{wordCount, roomOf, wordsState, stateOf, putRow}
 use Rattle.layout.proofs.Stores.{same-room, put-row, put-row-length}
@@ -63,13 +63,13 @@ module _ (entry old bytes : List ℕ) (d n : ℕ) (long : length entry ≡ wordC
           })
 
     pub reading-stop : (why : Refusal) → p < n → rowRead d p left ≡ stop why → unread why ≡ laid (placesRead (roomOf entry) d n bytes)
-    unfolding placesRead next
+    unfolding placesBy next
     reading-stop why h e =
         let stopped = done-stop (v .sofar .done) why h e in
         rw stopped
 
     pub reading-end : n ≤ p → resolve (leftVerdict left) (complete (tableIn words)) unread ≡ laid (placesRead (roomOf entry) d n bytes)
-    unfolding placesRead next
+    unfolding placesBy next
     reading-end h =
         let sofar : Sofar (roomOf entry) d n bytes (wordsState (roomOf entry) words .table) p left = rw same-old at (v .sofar) in
         let read-all = done-end (sofar .done) h in

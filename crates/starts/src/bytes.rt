@@ -13,7 +13,8 @@ ghost use Rattle.table_bytes.specs.Reading.{readTable};
 ghost use Rattle.layout.specs.Words.{roomOf, rightLength, stateOf};
 ghost use Rattle.starts.specs.Starts.{begun};
 
-// Of the start's own checks, 1 to 5 pass again. Refused: 1 to 5, 8 and 9 as the numbers are read, then 10, 6, 7, 12.
+// Of the start's own checks, 1 to 5 and 17 pass again. Refused: 1 to 5, 8 and 9 as the numbers are read, 17 behind each place, then 10, 6,
+// 7, 12.
 pub fn start_bytes(table: &[u8], first: Slots, words: &mut [u64]) -> StartAnswer
     requires { ⌜ rightLength maxPlaces (now words) ≡ true ⌝ }
     ensures { λ a. ⌜ record { state = stateOf (now (words .exit)); answer = startAnswerOf a } ≡ begun (roomOf (now (words .entry))) (readTable (roomOf (now (words .entry))) (now (table .entry))) (first .0) ⌝ }

@@ -49,7 +49,7 @@ fn lay_places(bytes: &[u8], d: u64, n: usize, words: &mut [u64]) -> Verdict
 }
 
 // The words are then those of the table. What else they hold, and what they hold after a refusal, is left open: the caller opens them or
-// clears them. Refused: 1 to 5, 8 and 9 as the numbers are read, then 10.
+// clears them. Refused: 1 to 5, 8 and 9 as the numbers are read, 17 behind each place, then 10.
 pub fn lay_bytes(table: &[u8], words: &mut [u64]) -> Verdict
     requires { ⌜ rightLength maxPlaces (now words) ≡ true ⌝ }
     ensures { λ v. ⌜ laidAs (tableIn (now (words .exit))) v ≡ laid (numbersRead (roomOf (now (words .entry))) (now (table .entry))) ⌝ }

@@ -12,7 +12,7 @@ ghost use Rattle.terms.specs.Answers.{startAnswerOf};
 ghost use Rattle.layout.specs.Words.{roomOf, rightLength, stateOf};
 ghost use Rattle.layout.specs.Numbers.{numberCount, numbersTable};
 
-// Refused: 1 to 7, 12.
+// Refused: 1 to 7, 17, 12.
 pub fn start_numbers(numbers: &[u32], first: Slots, words: &mut [u64]) -> StartAnswer
     requires { ⌜ (rightLength maxPlaces (now words) ≡ true) × (length (now numbers) ≡ numberCount (roomOf (now words))) ⌝ }
     ensures { λ a. ⌜ record { state = stateOf (now (words .exit)); answer = startAnswerOf a } ≡ start (roomOf (now (words .entry))) (numbersTable (roomOf (now (words .entry))) (now (numbers .entry))) (first .0) ⌝ }

@@ -2,7 +2,7 @@
 -- rest. Assumes nothing.
 use mathlib.Core.Path.{_≡_, refl, ap, sym, subst, _∙_}
 use mathlib.Core.List.{List, [], _∷_, _++_, append-nil, append-assoc}
-use Prim.Native.Nat.{ℕ, zero, suc, _<_}
+use Prim.Native.Nat.{ℕ, zero, suc, _≤_, _<_}
 use native.Mathlib.Omega.{arith}
 use lib.ListN.{length, getD, drop}
 use Rattle.lists.specs.Sums.{joined}
@@ -14,10 +14,13 @@ use Rattle.groups.specs.Groups.{numberOf, numberBytes}
 use Rattle.groups.specs.Inverse.{Bytes, Form}
 use Rattle.groups.proofs.Inverse.{one-form}
 use Rattle.terms.specs.declared.refusals.Refusal.{Refusal}
+use Rattle.terms.specs.declared.refusals.Cause.{Cause}
 use Rattle.terms.specs.declared.place.Requestor.{Requestor}
-use Rattle.terms.specs.Table.{rowNumbers, Bounds, rateBounds, burstBounds, needBounds, withinBounds, heldTo, rowVerdict, eachPlace}
-use Rattle.terms.specs.Refusals.{Verdict, faultless, fault, then, resolve}
-use Rattle.table_bytes.specs.Reading.{Read, read, stop, next, readAs, fieldRead, itemsRead, rowRead, rowsRead}
+use Rattle.terms.specs.Table.{rowNumbers, Bounds, rateBounds, burstBounds, needBounds, withinBounds, heldTo, fieldsVerdict, offeredRowVerdict, needFitsVerdict, eachPlace}
+use Rattle.terms.specs.Refusals.{Verdict, faultless, fault, then}
+use Rattle.table_bytes.specs.declared.rows.Row.{Row}
+use Rattle.table_bytes.specs.declared.rows.Row.the-variants as row
+use Rattle.table_bytes.specs.Reading.{Read, read, stop, next, readAs, checkedRead, fieldRead, itemsRead, rowFieldsRead, rowRead, rowsRead, rowOf, takenByRow}
 use Rattle.table_bytes.proofs.Readings.{Took}
 
 -- ---- what comes next has something to be read from
@@ -53,14 +56,15 @@ pub record Field (b : Bounds) (bytes : List ℕ) (x : ℕ) (rest : List ℕ) : T
   pub number : numberOf bytes ≡ Number x taken
   pub behind : drop taken bytes ≡ rest
 
-checked : (v : Verdict) (x y : ℕ) (left rest : List ℕ) → resolve v (read x left) stop ≡ read y rest → (v ≡ faultless) × ((x ≡ y) × (left ≡ rest))
+-- what was read passed its check
+checked : {X : Type 0} (v : Verdict) (x y : X) (left rest : List ℕ) → checkedRead v x left ≡ read y rest → (v ≡ faultless) × ((x ≡ y) × (left ≡ rest))
 checked faultless x y left rest e = (refl, read-same x y left rest e)
 checked (fault why) x y left rest e = stop-read e
 
 pub field-open : (b : Bounds) (bytes : List ℕ) (x : ℕ) (rest : List ℕ) → fieldRead b bytes ≡ read x rest → Field b bytes x rest
 unfolding fieldRead
 field-open b bytes x rest e = told (numberOf bytes) refl (next-open (readAs bytes (numberOf bytes)) _ x rest e) where
-  told : (n : number.Reading) → numberOf bytes ≡ n → Next (readAs bytes n) (λ y l. resolve (heldTo b y) (read y l) stop) x rest → Field b bytes x rest
+  told : (n : number.Reading) → numberOf bytes ≡ n → Next (readAs bytes n) (λ y l. checkedRead (heldTo b y) y l) x rest → Field b bytes x rest
   told (Number y taken) f step =
       let one = read-same y (step .value) (drop taken bytes) (step .left) (step .first) in
       let two = checked (heldTo b (step .value)) (step .value) x (step .left) rest (step .second) in
@@ -111,24 +115,26 @@ field-spent {b} {bytes} {x} {rest} f = record { split = λ all. told all (one-fo
 
 -- ---- a row
 
-record RowRead (d p : ℕ) (bytes : List ℕ) (r : Requestor) (rest : List ℕ) : Type 0 where
-  passes : rowVerdict d p r ≡ faultless
+-- its numbers' bytes stand in front of the rest, and what is checked of it passes
+record RowRead (passes : Requestor → Verdict) (bytes : List ℕ) (r : Requestor) (rest : List ℕ) : Type 0 where
+  passed : passes r ≡ faultless
   spent : Spent (rowNumbers r) bytes rest
 
 row-made : (d p : ℕ) {bytes after-n after-b after-j rest : List ℕ} {n b j l : ℕ} → Field (rateBounds d p) bytes n after-n
     → Field (burstBounds d p) after-n b after-b → Field (needBounds p) after-b j after-j → Field (withinBounds p) after-j l rest
-    → RowRead d p bytes (record { rate = n; burst = b; need = record { 0 = j }; within = record { 0 = l } }) rest
-unfolding rowVerdict then
+    → RowRead (fieldsVerdict d p) bytes (record { rate = n; burst = b; need = record { 0 = j }; within = record { 0 = l } }) rest
+unfolding fieldsVerdict then
 row-made d p {n = n} {b = b} {j = j} {l = l} rate burst need within = record {
-  passes = rw (rate .held, burst .held, need .held, within .held);
+  passed = rw (rate .held, burst .held, need .held, within .held);
   spent =
       spent-more (n ∷ []) (b ∷ j ∷ l ∷ []) (field-spent rate)
       (spent-more (b ∷ []) (j ∷ l ∷ []) (field-spent burst) (spent-more (j ∷ []) (l ∷ []) (field-spent need) (field-spent within)));
 }
 
-row-open : (d p : ℕ) (bytes : List ℕ) (r : Requestor) (rest : List ℕ) → rowRead d p bytes ≡ read r rest → RowRead d p bytes r rest
-unfolding rowRead
-row-open d p bytes r rest e =
+-- its four numbers
+fields-open : (d p : ℕ) (bytes : List ℕ) (r : Requestor) (rest : List ℕ) → rowFieldsRead d p bytes ≡ read r rest → RowRead (fieldsVerdict d p) bytes r rest
+unfolding rowFieldsRead
+fields-open d p bytes r rest e =
     let n = next-open _ _ r rest e in
     let b = next-open _ _ r rest (n .second) in
     let j = next-open _ _ r rest (b .second) in
@@ -136,30 +142,94 @@ row-open d p bytes r rest e =
     let row =
     row-made d p (field-open (rateBounds d p) bytes (n .value) (n .left) (n .first)) (field-open (burstBounds d p) (n .left) (b .value) (b .left) (b .first))
     (field-open (needBounds p) (b .left) (j .value) (j .left) (j .first)) (field-open (withinBounds p) (j .left) (l .value) (l .left) (l .first)) in
-    moved (RowRead d p bytes) _ r _ rest (l .second) row
+    moved (RowRead (fieldsVerdict d p) bytes) _ r _ rest (l .second) row
+
+-- and 17
+row-open : (d p : ℕ) (bytes : List ℕ) (r : Requestor) (rest : List ℕ) → rowRead d p bytes ≡ read r rest → RowRead (offeredRowVerdict d p) bytes r rest
+unfolding rowRead offeredRowVerdict then
+row-open d p bytes r rest e =
+    let x = next-open _ _ r rest e in
+    let (fits, (same, behind)) = checked (needFitsVerdict d p (x .value)) (x .value) r (x .left) rest (x .second) in
+    let row = fields-open d p bytes (x .value) (x .left) (x .first) in
+    let whole : RowRead (offeredRowVerdict d p) bytes (x .value) (x .left) = record { passed = rw (row .passed) fits; spent = row .spent } in
+    subst (λ l. RowRead (offeredRowVerdict d p) bytes r l) behind (subst (λ z. RowRead (offeredRowVerdict d p) bytes z (x .left)) same whole)
+
+-- the four numbers of a row as the code hands them on, and what comes of them with 17
+module _ (d p : ℕ) (bytes : List ℕ) (f : Row) (reads : (rowOf bytes f ≡ rowFieldsRead d p bytes) × (takenByRow f ≤ length bytes)) where
+  pub row-refused : (c : Cause) → f ≡ row.Refused c → (rowOf bytes f ≡ rowRead d p bytes) × (takenByRow f ≤ length bytes)
+  unfolding rowRead next
+  row-refused c e = let stops = sym (ap (rowOf bytes) e) ∙ reads .0 in (rw (sym stops) (ap (rowOf bytes) e), reads .1)
+
+  module _ (r : Requestor) (taken : ℕ) (e : f ≡ row.Taken r taken) where
+    numbers : rowFieldsRead d p bytes ≡ read r (drop taken bytes)
+    numbers = sym (reads .0) ∙ ap (rowOf bytes) e
+
+    pub row-limits : fieldsVerdict d p r ≡ faultless
+    row-limits = fields-open d p bytes r (drop taken bytes) numbers .passed
+
+    pub row-above : {why : Refusal} → fault why ≡ needFitsVerdict d p r → (stop why ≡ rowRead d p bytes) × (0 ≤ length bytes)
+    unfolding rowRead next
+    row-above above = (rw (numbers, sym above), omega arith)
+
+    pub row-whole : faultless ≡ needFitsVerdict d p r → (read r (drop taken bytes) ≡ rowRead d p bytes) × (taken ≤ length bytes)
+    unfolding rowRead next
+    row-whole fits = (rw (numbers, sym fits), rw e at (reads .1))
 
 -- ---- rows
 
-pub record RowsRead (places d p : ℕ) (bytes : List ℕ) (rows : List Requestor) (rest : List ℕ) : Type 0 where
-  pub passes : eachPlace (rowVerdict d) p rows ≡ faultless
+-- so many, of which each passes what is checked of it
+pub record RowsRead (check : ℕ → Requestor → Verdict) (places p : ℕ) (bytes : List ℕ) (rows : List Requestor) (rest : List ℕ) : Type 0 where
+  pub passes : eachPlace check p rows ≡ faultless
   pub count : length rows ≡ places
   pub spent : Spent (joined rowNumbers rows) bytes rest
 
-rows-open-more : {places d p : ℕ} {bytes left rest : List ℕ} {r : Requestor} {rows : List Requestor} → RowRead d p bytes r left → RowsRead places d (suc p) left rows rest
-    → RowsRead (suc places) d p bytes (r ∷ rows) rest
-unfolding eachPlace then joined
-rows-open-more {places} {d} {p} {bytes} {left} {rest} {r} {rows} one more = record {
-  passes = rw (one .passes) (more .passes);
-  count = ap suc (more .count);
-  spent = spent-more (rowNumbers r) (joined rowNumbers rows) (one .spent) (more .spent);
-}
+module _ (item : ℕ → List ℕ → Read Requestor) (check : ℕ → Requestor → Verdict)
+    (item-open : (p : ℕ) (bytes : List ℕ) (r : Requestor) (rest : List ℕ) → item p bytes ≡ read r rest → RowRead (check p) bytes r rest) where
+  rows-more : {places p : ℕ} {bytes left rest : List ℕ} {r : Requestor} {rows : List Requestor} → RowRead (check p) bytes r left → RowsRead check places (suc p) left rows rest
+      → RowsRead check (suc places) p bytes (r ∷ rows) rest
+  unfolding eachPlace then joined
+  rows-more {places} {p} {bytes} {left} {rest} {r} {rows} one more = record {
+    passes = rw (one .passed) (more .passes);
+    count = ap suc (more .count);
+    spent = spent-more (rowNumbers r) (joined rowNumbers rows) (one .spent) (more .spent);
+  }
 
-pub rows-open : (places d p : ℕ) (bytes : List ℕ) (rows : List Requestor) (rest : List ℕ) → rowsRead places d p bytes ≡ read rows rest → RowsRead places d p bytes rows rest
-unfolding itemsRead eachPlace joined
-rows-open zero d p bytes rows rest e =
-    moved (RowsRead zero d p bytes) [] rows bytes rest e (record { passes = refl; count = refl; spent = spent-none bytes })
-rows-open (suc places) d p bytes rows rest e =
-    let one = next-open (rowRead d p bytes) _ rows rest e in
-    let more = next-open (rowsRead places d (suc p) (one .left)) _ rows rest (one .second) in
-    let all = rows-open-more (row-open d p bytes (one .value) (one .left) (one .first)) (rows-open places d (suc p) (one .left) (more .value) (more .left) (more .first)) in
-    moved (RowsRead (suc places) d p bytes) (one .value ∷ more .value) rows (more .left) rest (more .second) all
+  items-open : (places p : ℕ) (bytes : List ℕ) (rows : List Requestor) (rest : List ℕ) → itemsRead item places p bytes ≡ read rows rest → RowsRead check places p bytes rows rest
+  unfolding itemsRead eachPlace joined
+  items-open zero p bytes rows rest e = moved (RowsRead check zero p bytes) [] rows bytes rest e (record { passes = refl; count = refl; spent = spent-none bytes })
+  items-open (suc places) p bytes rows rest e =
+      let one = next-open (item p bytes) _ rows rest e in
+      let more = next-open (itemsRead item places (suc p) (one .left)) _ rows rest (one .second) in
+      let all = rows-more (item-open p bytes (one .value) (one .left) (one .first)) (items-open places (suc p) (one .left) (more .value) (more .left) (more .first)) in
+      moved (RowsRead check (suc places) p bytes) (one .value ∷ more .value) rows (more .left) rest (more .second) all
+
+pub rows-open : (places d p : ℕ) (bytes : List ℕ) (rows : List Requestor) (rest : List ℕ) → rowsRead places d p bytes ≡ read rows rest → RowsRead (offeredRowVerdict d) places p bytes rows rest
+rows-open places d = items-open (rowRead d) (offeredRowVerdict d) (row-open d) places
+
+-- without 17
+pub fields-rows-open : (places d p : ℕ) (bytes : List ℕ) (rows : List Requestor) (rest : List ℕ) → itemsRead (rowFieldsRead d) places p bytes ≡ read rows rest → RowsRead (fieldsVerdict d) places p bytes rows rest
+fields-rows-open places d = items-open (rowFieldsRead d) (fieldsVerdict d) (fields-open d) places
+
+-- one place, and those behind it: 17 there, or what is found of these
+checked-more : (places d p : ℕ) (bytes : List ℕ) (x : Requestor) (left : List ℕ) (w : Verdict) (xs : List Requestor) (rest : List ℕ) → rowFieldsRead d p bytes ≡ read x left
+    → rowsRead places d (suc p) left ≡ checkedRead w xs rest → rowsRead (suc places) d p bytes ≡ checkedRead (then (needFitsVerdict d p x) w) (x ∷ xs) rest
+unfolding itemsRead rowRead next then
+checked-more places d p bytes x left w xs rest numbers later = rw numbers (by (needFitsVerdict d p x) w later)
+  where
+    by : (v w : Verdict) → rowsRead places d (suc p) left ≡ checkedRead w xs rest
+        → next (checkedRead v x left) (λ y l. next (rowsRead places d (suc p) l) λ ys k. read (y ∷ ys) k) ≡ checkedRead (then v w) (x ∷ xs) rest
+    by (fault r) w f = refl
+    by faultless faultless f = rw f
+    by faultless (fault r) f = rw f
+
+-- so 17 is all that can then be found of them, at the first place whose need does not fit
+pub fields-rows-checked : (places d p : ℕ) (bytes : List ℕ) (rows : List Requestor) (rest : List ℕ) → itemsRead (rowFieldsRead d) places p bytes ≡ read rows rest
+    → rowsRead places d p bytes ≡ checkedRead (eachPlace (needFitsVerdict d) p rows) rows rest
+unfolding itemsRead eachPlace
+fields-rows-checked zero d p bytes rows rest e = moved (λ x l. rowsRead zero d p bytes ≡ checkedRead (eachPlace (needFitsVerdict d) p x) x l) [] rows bytes rest e refl
+fields-rows-checked (suc places) d p bytes rows rest e =
+    let one = next-open (rowFieldsRead d p bytes) _ rows rest e in
+    let more = next-open (itemsRead (rowFieldsRead d) places (suc p) (one .left)) _ rows rest (one .second) in
+    let later = fields-rows-checked places d (suc p) (one .left) (more .value) (more .left) (more .first) in
+    moved (λ x l. rowsRead (suc places) d p bytes ≡ checkedRead (eachPlace (needFitsVerdict d) p x) x l) (one .value ∷ more .value) rows (more .left) rest (more .second)
+    (checked-more places d p bytes (one .value) (one .left) _ (more .value) (more .left) (one .first) later)

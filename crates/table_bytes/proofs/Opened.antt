@@ -9,12 +9,12 @@ use lib.ListN.{length}
 use Rattle.lists.specs.Sums.{joined}
 use Rattle.terms.specs.declared.refusals.Refusal.{Refusal}
 use Rattle.terms.specs.declared.place.Requestor.{Requestor}
-use Rattle.terms.specs.Table.{Table, rowNumbers, tableOf, denominatorBounds, countBounds, rateSumVerdict, tableVerdict}
+use Rattle.terms.specs.Table.{Table, rowNumbers, tableOf, denominatorBounds, countBounds, offeredRowVerdict, rateSumVerdict, offeredVerdict}
 use Rattle.terms.specs.Refusals.{Verdict, faultless, fault, gate, then, resolve}
 use Rattle.terms.specs.Figures.{finishesVerdict, admissionVerdict}
 use Rattle.terms.proofs.Checks.{gate-open, then-open, held-open, passed}
 use Rattle.terms.specs.TableResult.{TableResult, accept, refuse}
-use Rattle.table_bytes.specs.Reading.{Read, read, stop, placesRead, numbersRead, leftVerdict, lastVerdict, settled, readTable}
+use Rattle.table_bytes.specs.Reading.{Read, read, stop, numbersRead, leftVerdict, lastVerdict, settled, readTable, placesBy, numbersBy}
 use Rattle.terms.proofs.Tables.{table-length, rate-sum-left, refuse-accept}
 use Rattle.table_bytes.proofs.Accepted.{Spent, spent-more, field-open, field-spent, next-open, read-same, rows-open}
 
@@ -26,11 +26,11 @@ pub record Taken (limit : ℕ) (bytes : List ℕ) (t : Table) (rest : List ℕ) 
   pub count : length rows ≡ n
   pub few : n ≤ limit
   pub table : tableOf limit d n rows ≡ t
-  pub checked : tableVerdict limit t ≡ rateSumVerdict t
+  pub checked : offeredVerdict limit t ≡ rateSumVerdict t
   pub spent : Spent (d ∷ n ∷ joined rowNumbers rows) bytes rest
 
 pub numbers-open : (limit : ℕ) (bytes : List ℕ) (t : Table) (rest : List ℕ) → numbersRead limit bytes ≡ read t rest → Taken limit bytes t rest
-unfolding numbersRead placesRead
+unfolding numbersBy placesBy
 numbers-open limit bytes t rest whole =
     let d = next-open _ _ t rest whole in
     let n = next-open _ _ t rest (d .second) in
@@ -47,7 +47,7 @@ numbers-open limit bytes t rest whole =
       count = rows .count;
       few = held-open (countBounds limit) (n .value) (two .held) .1;
       table = same .0;
-      checked = rw (same .0) at (rate-sum-left limit (d .value) (n .value) (p .value) (rows .count) (one .held) (two .held) (rows .passes));
+      checked = rw (same .0) at (rate-sum-left limit (d .value) (n .value) (p .value) (rows .count) offeredRowVerdict (one .held) (two .held) (rows .passes));
       spent = subst (λ l. Spent (d .value ∷ n .value ∷ joined rowNumbers (p .value)) bytes l) (same .1) numbers;
     }
 
@@ -91,7 +91,7 @@ table-open limit bytes t e =
 -- the numbers are read to the end, and the table passes admission
 pub read-on : (limit : ℕ) (bytes : List ℕ) (t : Table) → numbersRead limit bytes ≡ read t [] → admissionVerdict limit t ≡ faultless → readTable limit bytes ≡ accept t
 unfolding readTable settled lastVerdict admissionVerdict gate then
-read-on limit bytes t whole ok = let both = then-open _ _ ok in rw (whole, passed limit t (both .0) .sum, both .1)
+read-on limit bytes t whole ok = let both = then-open _ _ ok in rw (whole, passed offeredRowVerdict limit t (both .0) .sum, both .1)
 
 -- ---- how a reading ends
 

@@ -19,7 +19,7 @@ use Rattle.terms.specs.Refusals.{faultless, fault, refusal, refusalOf}
 use Rattle.table_bytes.specs.declared.fields.Number as code
 use Rattle.table_bytes.specs.declared.fields.Field.{Field}
 use Rattle.table_bytes.specs.declared.fields.Field.the-variants as field
-use Rattle.table_bytes.specs.Reading.{Read, read, stop, next, numberRead, fieldRead, itemsRead, rowRead, placesRead, numbersRead, fieldOf, takenByField}
+use Rattle.table_bytes.specs.Reading.{Read, read, stop, next, numberRead, fieldRead, itemsRead, rowFieldsRead, rowRead, placesRead, numbersRead, fieldOf, takenByField, numbersBy}
 
 -- ---- one number
 
@@ -107,13 +107,13 @@ reach-end x r = sym (r .same ∙ ap (λ l. read x l) (r .behind))
 
 -- ---- the four numbers of a row
 
-pub row-begins : (d p : ℕ) (bytes : List ℕ) → rowRead d p bytes ≡ (
+pub row-begins : (d p : ℕ) (bytes : List ℕ) → rowFieldsRead d p bytes ≡ (
     next (fieldRead (rateBounds d p) bytes) λ n rest.
     next (fieldRead (burstBounds d p) rest) λ b rest.
     next (fieldRead (needBounds p) rest) λ j rest.
     next (fieldRead (withinBounds p) rest) λ l rest.
     read (record { rate = n; burst = b; need = record { 0 = j }; within = record { 0 = l } }) rest)
-unfolding rowRead
+unfolding rowFieldsRead
 row-begins d p bytes = refl
 
 -- ---- item after item
@@ -216,5 +216,5 @@ pub table-begins : (limit : ℕ) (bytes : List ℕ) → numbersRead limit bytes 
     next (fieldRead denominatorBounds bytes) λ d rest.
     next (fieldRead (countBounds limit) rest) λ n rest.
     placesRead limit d n rest)
-unfolding numbersRead
+unfolding numbersBy
 table-begins limit bytes = refl

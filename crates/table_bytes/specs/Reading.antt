@@ -1,6 +1,7 @@
 -- Document 01, "Table bytes", as they are read: D, N, and for each place its rate, its burst and the two numbers of its need. Each number is
--- read from what the one before it left, 8 or 9 if there is none, and held to its limits, 1 to 5, before the next; then come 10, 6 and
--- 7. A refused reading hands back a table whose every field is 0.
+-- read from what the one before it left, 8 or 9 if there is none, and held to its limits, 1 to 5, before the next; a place whose numbers have
+-- been read is checked for 17 before the next place (document 02, request 6); then come 10, 6 and 7. A refused reading hands back a table whose
+-- every field is 0.
 use mathlib.Core.List.{List, [], _∷_}
 use Prim.Native.Nat.{ℕ, zero, suc}
 use lib.Dec.{eqb}
@@ -10,7 +11,7 @@ use Rattle.groups.specs.declared.reading.Reading.the-variants.{Number, Ended, M
 use Rattle.groups.specs.Groups.{numberOf}
 use Rattle.terms.specs.declared.refusals.Refusal.{Refusal}
 use Rattle.terms.specs.declared.place.Requestor.{Requestor}
-use Rattle.terms.specs.Table.{Table, tableOf, Bounds, denominatorBounds, countBounds, rateBounds, burstBounds, needBounds, withinBounds, heldTo, rateSumVerdict}
+use Rattle.terms.specs.Table.{Table, tableOf, Bounds, denominatorBounds, countBounds, rateBounds, burstBounds, needBounds, withinBounds, heldTo, needFitsVerdict, rateSumVerdict}
 use Rattle.terms.specs.Refusals.{Verdict, faultless, refusal, refusalOf, gate, then, resolve}
 use Rattle.terms.specs.Figures.{finishesVerdict}
 use Rattle.terms.specs.TableResult.{TableResult, accept, refuse}
@@ -38,18 +39,26 @@ readAs bytes Malformed = stop (refusal 9)
 abbrev pub numberRead : List ℕ → Read ℕ
 numberRead bytes = readAs bytes (numberOf bytes)
 
--- and checked
+-- what was read, by what its check found
+abbrev pub checkedRead : {X : Type 0} → Verdict → X → (rest : List ℕ) → Read X
+checkedRead v x rest = resolve v (read x rest) stop
+
+-- a number is read and checked
 unfoldable pub fieldRead : Bounds → List ℕ → Read ℕ
-fieldRead b bytes = next (numberRead bytes) λ x rest. resolve (heldTo b x) (read x rest) stop
+fieldRead b bytes = next (numberRead bytes) λ x rest. checkedRead (heldTo b x) x rest
 
 -- n, b, j and L of place p
-unfoldable pub rowRead : ℕ → ℕ → List ℕ → Read Requestor
-rowRead d p bytes =
+unfoldable pub rowFieldsRead : ℕ → ℕ → List ℕ → Read Requestor
+rowFieldsRead d p bytes =
     next (fieldRead (rateBounds d p) bytes) λ n rest.
     next (fieldRead (burstBounds d p) rest) λ b rest.
     next (fieldRead (needBounds p) rest) λ j rest.
     next (fieldRead (withinBounds p) rest) λ l rest.
     read (record { rate = n; burst = b; need = record { 0 = j }; within = record { 0 = l } }) rest
+
+-- the row that they are, once it passed 17
+unfoldable pub rowRead : ℕ → ℕ → List ℕ → Read Requestor
+rowRead d p bytes = next (rowFieldsRead d p bytes) λ r rest. checkedRead (needFitsVerdict d p r) r rest
 
 -- so many items one after the other, from place p on, each read from the bytes that the one before it left
 unfoldable pub itemsRead : {X : Type 0} → (item : (place : ℕ) → List ℕ → Read X) → (items p : ℕ) → List ℕ → Read (List X)
@@ -63,16 +72,22 @@ itemsRead item (suc items) p bytes =
 abbrev pub rowsRead : (places d p : ℕ) → List ℕ → Read (List Requestor)
 rowsRead places d p bytes = itemsRead (rowRead d) places p bytes
 
--- the places of a table, whose D and N have been read; `limit` is how many places there is room for
-unfoldable pub placesRead : (limit d n : ℕ) → List ℕ → Read Table
-placesRead limit d n bytes = next (rowsRead n d 0 bytes) λ rows rest. read (tableOf limit d n rows) rest
+-- the places of a table, whose D and N have been read, by how each row is read; `limit` is how many places there is room for
+unfoldable pub placesBy : (row : (d p : ℕ) → List ℕ → Read Requestor) → (limit d n : ℕ) → List ℕ → Read Table
+placesBy row limit d n bytes = next (itemsRead (row d) n 0 bytes) λ rows rest. read (tableOf limit d n rows) rest
+
+abbrev pub placesRead : (limit d n : ℕ) → List ℕ → Read Table
+placesRead limit d n bytes = placesBy rowRead limit d n bytes
 
 -- D, N and the places
-unfoldable pub numbersRead : ℕ → List ℕ → Read Table
-numbersRead limit bytes =
+unfoldable pub numbersBy : (row : (d p : ℕ) → List ℕ → Read Requestor) → ℕ → List ℕ → Read Table
+numbersBy row limit bytes =
     next (fieldRead denominatorBounds bytes) λ d rest.
     next (fieldRead (countBounds limit) rest) λ n rest.
-    placesRead limit d n rest
+    placesBy row limit d n rest
+
+abbrev pub numbersRead : ℕ → List ℕ → Read Table
+numbersRead limit bytes = numbersBy rowRead limit bytes
 
 -- 10, by what is left behind them
 abbrev pub leftVerdict : (rest : List ℕ) → Verdict

@@ -5,8 +5,8 @@ use Prim.Native.Nat.{ℕ}
 use Rattle.lists.specs.Choices.{inRange}
 use Rattle.terms.specs.declared.refusals.Refusal.{Refusal}
 use Rattle.terms.specs.declared.place.Requestor.{Requestor}
-use Rattle.terms.specs.Refusals.{Verdict, faultless, fault, gate, then}
-use Rattle.terms.specs.Table.{Bounds, rateBounds, burstBounds, needBounds, withinBounds, heldTo, rowVerdict}
+use Rattle.terms.specs.Refusals.{Verdict, faultless, fault, refusalAt, gate, then}
+use Rattle.terms.specs.Table.{Bounds, rateBounds, burstBounds, needBounds, withinBounds, heldTo, fieldsVerdict, needFits, needFitsVerdict, offeredRowVerdict}
 use Rattle.terms.specs.State.{isFaultless}
 
 pub both : (v w : Verdict) → isFaultless (then v w) ≡ (isFaultless v && isFaultless w)
@@ -29,12 +29,12 @@ admitted v b field x e f = sym (e ∙ ap (λ y. inRange (y .low) (y .high) x) f)
 
 -- checks 3, 4 and 5 of a row
 pub row-test : (d p : ℕ) (r : Requestor)
-    → isFaultless (rowVerdict d p r)
+    → isFaultless (fieldsVerdict d p r)
     ≡ (inRange (rateBounds d p .low) (rateBounds d p .high) (r .rate)
     && (inRange (burstBounds d p .low) (burstBounds d p .high) (r .burst)
     && (inRange (needBounds p .low) (needBounds p .high) (r .need .0)
     && inRange (withinBounds p .low) (withinBounds p .high) (r .within .0))))
-unfolding rowVerdict
+unfolding fieldsVerdict
 row-test d p r =
     let rates = heldTo (rateBounds d p) (r .rate) in
     let bursts = heldTo (burstBounds d p) (r .burst) in
@@ -42,3 +42,8 @@ row-test d p r =
     let withins = heldTo (withinBounds p) (r .within .0) in
     both rates (then bursts (then needs withins))
     ∙ rw (both bursts (then needs withins), both needs withins, within (rateBounds d p) (r .rate), within (burstBounds d p) (r .burst), within (needBounds p) (r .need .0), within (withinBounds p) (r .within .0))
+
+-- and 17
+pub offered-row-test : (d p : ℕ) (r : Requestor) → isFaultless (offeredRowVerdict d p r) ≡ (isFaultless (fieldsVerdict d p r) && needFits d r)
+unfolding offeredRowVerdict needFitsVerdict
+offered-row-test d p r = both (fieldsVerdict d p r) _ ∙ ap (λ b. isFaultless (fieldsVerdict d p r) && b) (gated (refusalAt 17 p) (needFits d r))

@@ -23,6 +23,7 @@ cause-by-number (cause.Input input.TooLong) = refl
 cause-by-number (cause.Input input.BufferShort) = refl
 cause-by-number (cause.Input input.NoOrder) = refl
 cause-by-number (cause.Input (input.Circle p)) = refl
+cause-by-number (cause.Input (input.NeedAboveBurst p)) = refl
 cause-by-number (cause.State state.BacklogLimit) = refl
 cause-by-number (cause.State state.SlotLimit) = refl
 cause-by-number (cause.State state.Unsound) = refl

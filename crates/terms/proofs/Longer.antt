@@ -11,9 +11,9 @@ use lib.Seq.{take-append-le, drop-append-le, getD-take}
 use Rattle.lists.specs.Sums.{every, upTo}
 use Rattle.lists.proofs.Tests.{cases}
 use Rattle.terms.specs.declared.place.Requestor.{Requestor}
-use Rattle.terms.specs.Table.{Table, noRequestor, requestorClear, requestorAt, requestorsOf, heldTo, tailVerdict, rateSumVerdict, tableVerdict}
+use Rattle.terms.specs.Table.{Table, noRequestor, requestorClear, requestorAt, requestorsOf, heldTo, fieldsVerdict, offeredRowVerdict, tailVerdict, rateSumVerdict, verdictBy}
 use Rattle.terms.specs.State.{State, noAccount, accountClear, accountAt, creditsHold, accountsHold, sound, Shaped, placeVerdict}
-use Rattle.terms.specs.Refusals.{gate, then}
+use Rattle.terms.specs.Refusals.{Verdict, gate, then}
 use Rattle.terms.specs.Figures.{admissionVerdict}
 use Rattle.terms.specs.Asked.{figuresVerdict, figures}
 use Rattle.terms.specs.Longer.{longerTable, longer}
@@ -55,9 +55,9 @@ module _ (room extra : ℕ) (t : Table) (rows : length (t .requestors) ≡ room)
   pub same-rows : requestorsOf (longerTable extra t) ≡ requestorsOf t
   same-rows = take-append-le (t .count) (t .requestors) (replicate extra noRequestor) (omega arith)
 
-  pub same-table : tableVerdict (room + extra) (longerTable extra t) ≡ tableVerdict room t
-  unfolding tableVerdict tailVerdict rateSumVerdict heldTo
-  same-table = rw (
+  same-checks : (row : (d p : ℕ) → Requestor → Verdict) → verdictBy row (room + extra) (longerTable extra t) ≡ verdictBy row room t
+  unfolding verdictBy tailVerdict rateSumVerdict heldTo
+  same-checks row = rw (
     same-rows,
     drop-append-le (t .count) (t .requestors) (replicate extra noRequestor) (omega arith),
     every-clear noRequestor requestorClear refl (drop (t .count) (t .requestors)) extra,
@@ -67,7 +67,7 @@ module _ (room extra : ℕ) (t : Table) (rows : length (t .requestors) ≡ room)
 
   pub same-admission : admissionVerdict (room + extra) (longerTable extra t) ≡ admissionVerdict room t
   unfolding admissionVerdict
-  same-admission = rw (same-table, same-rows)
+  same-admission = rw (same-checks offeredRowVerdict, same-rows)
 
 -- a table whose N is above its room has with more room a row of zeros among its places
 row-of-zeros : (room extra : ℕ) (t : Table) → length (t .requestors) ≡ room → room < t .count → Fair (room + extra) (longerTable extra t) → ⊥
@@ -98,7 +98,7 @@ module _ (room extra : ℕ) (s : State) (v : Shaped room s) where
       let sums : upTo n (creditsHold (rows ++ clear) (accounts ++ even)) ≡ upTo n (creditsHold rows accounts) =
       up-to-same n _ _ (λ k h. rw (take-append-le k rows clear (omega (arith, v .rows)), take-append-le k accounts even (omega (arith, v .accounts)))) in
       rw (
-        same-table room extra (s .table) (v .rows) few,
+        same-checks room extra (s .table) (v .rows) few fieldsVerdict,
         take-append-le n accounts even (omega (arith, v .accounts)),
         sums,
         drop-append-le n accounts even (omega (arith, v .accounts)),

@@ -1,4 +1,4 @@
--- A walk over the first n rows of an array, from row i on: what its next step is. Checks 3 to 5, check 7 and test 23 go by these laws.
+-- A walk over the first n rows of an array, from row i on: what its next step is. Checks 3 to 5 and 17, check 7 and test 23 go by these laws.
 -- Assumes nothing.
 use mathlib.Core.Path.{_≡_}
 use mathlib.Core.List.{List, [], _∷_}

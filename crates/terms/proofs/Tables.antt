@@ -14,8 +14,8 @@ use Rattle.lists.proofs.Tests.{and-true}
 use Rattle.lists.proofs.Overwriting.{length-over}
 use Rattle.terms.specs.declared.refusals.Refusal.{Refusal}
 use Rattle.terms.specs.declared.place.Requestor.{Requestor}
-use Rattle.terms.specs.Table.{Table, noRequestor, requestorClear, requestorsOf, tableOf, denominatorBounds, countBounds, heldTo, rowVerdict, eachPlace, tailVerdict, rateSumVerdict, tableVerdict}
-use Rattle.terms.specs.Refusals.{faultless, gate, then}
+use Rattle.terms.specs.Table.{Table, noRequestor, requestorClear, requestorsOf, tableOf, denominatorBounds, countBounds, heldTo, eachPlace, tailVerdict, rateSumVerdict, verdictBy}
+use Rattle.terms.specs.Refusals.{Verdict, faultless, gate, then}
 use Rattle.terms.specs.Answers.{accepted, refused}
 use Rattle.terms.specs.TableResult.{TableResult, accept, refuse}
 
@@ -27,12 +27,12 @@ rest-clear zero (suc n) = refl
 rest-clear (suc limit) zero = rest-clear limit zero
 rest-clear (suc limit) (suc n) = rest-clear limit n
 
--- a table that passes 1 to 5
-passed-five : (limit : ℕ) (t : Table) → heldTo denominatorBounds (t .denominator) ≡ faultless → heldTo (countBounds limit) (t .count) ≡ faultless
-    → tailVerdict t ≡ faultless → eachPlace (rowVerdict (t .denominator)) 0 (requestorsOf t) ≡ faultless
-    → tableVerdict limit t ≡ rateSumVerdict t
-unfolding tableVerdict then
-passed-five limit t one two tail rows = rw (one, two, tail, rows)
+-- a table that passes all but 6, whatever is checked of each row
+all-but-six : (row : (d p : ℕ) → Requestor → Verdict) (limit : ℕ) (t : Table) → heldTo denominatorBounds (t .denominator) ≡ faultless → heldTo (countBounds limit) (t .count) ≡ faultless
+    → tailVerdict t ≡ faultless → eachPlace (row (t .denominator)) 0 (requestorsOf t) ≡ faultless
+    → verdictBy row limit t ≡ rateSumVerdict t
+unfolding verdictBy then
+all-but-six row limit t one two tail rows = rw (one, two, tail, rows)
 
 -- it has a row for each place that there is room for
 pub table-length : (limit d n : ℕ) (rows : List Requestor) → length rows ≤ limit → length (tableOf limit d n rows .requestors) ≡ limit
@@ -50,11 +50,11 @@ module _ (limit d n : ℕ) (rows : List Requestor) (count : length rows ≡ n) w
   unfolding tailVerdict gate tableOf writtenOver
   table-tail = rw (drop-at rows (drop (length rows) (replicate limit noRequestor)) n count, rest-clear limit (length rows))
 
-  -- D, N and the rows have passed 1 to 5, so that 6 is left of the table's checks
-  pub rate-sum-left : heldTo denominatorBounds d ≡ faultless → heldTo (countBounds limit) n ≡ faultless → eachPlace (rowVerdict d) 0 rows ≡ faultless
-      → tableVerdict limit (tableOf limit d n rows) ≡ rateSumVerdict (tableOf limit d n rows)
+  -- D, N and the rows have passed what is checked of them, so that 6 is left
+  pub rate-sum-left : (row : (d p : ℕ) → Requestor → Verdict) → heldTo denominatorBounds d ≡ faultless → heldTo (countBounds limit) n ≡ faultless → eachPlace (row d) 0 rows ≡ faultless
+      → verdictBy row limit (tableOf limit d n rows) ≡ rateSumVerdict (tableOf limit d n rows)
   unfolding tableOf
-  rate-sum-left one two rows-pass = passed-five limit (tableOf limit d n rows) one two table-tail (ap (eachPlace (rowVerdict d) 0) table-rows ∙ rows-pass)
+  rate-sum-left row one two rows-pass = all-but-six row limit (tableOf limit d n rows) one two table-tail (ap (eachPlace (row d) 0) table-rows ∙ rows-pass)
 
 -- a clear row is all 0, and so the rows past place N−1 of a table that passes check 2 are those of an array of rows that are 0
 clear-none : (r : Requestor) → requestorClear r ≡ true → r ≡ noRequestor

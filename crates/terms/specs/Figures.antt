@@ -7,7 +7,7 @@ use lib.ListN.{take}
 use Rattle.lists.specs.Sums.{total}
 use Rattle.terms.specs.Limits.{maxDenominator, maxBurst, maxNeed}
 use Rattle.terms.specs.declared.place.Requestor.{Requestor}
-use Rattle.terms.specs.Table.{Table, rate, burst, requestorAt, requestorsOf, eachPlace, tableVerdict}
+use Rattle.terms.specs.Table.{Table, rate, burst, requestorAt, requestorsOf, eachPlace, offeredVerdict}
 use Rattle.terms.specs.Refusals.{Verdict, faultless, refusalAt, gate, then}
 
 -- a / b, rounded up
@@ -54,6 +54,6 @@ finishVerdict d rs p r = gate (refusalAt 7 p) (leb (finish d rs p (r .need .0)) 
 abbrev pub finishesVerdict : Table → Verdict
 finishesVerdict t = eachPlace (finishVerdict (t .denominator) (requestorsOf t)) 0 (requestorsOf t)
 
--- the checks of a table given as numbers: 1 to 6, then 7
+-- the checks of a table given as numbers: 1 to 6 with 17 among them, then 7
 unfoldable pub admissionVerdict : ℕ → Table → Verdict
-admissionVerdict limit t = then (tableVerdict limit t) (finishesVerdict t)
+admissionVerdict limit t = then (offeredVerdict limit t) (finishesVerdict t)

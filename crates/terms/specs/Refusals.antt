@@ -1,4 +1,4 @@
--- Document 01, "Refusals caused by the input" and "Refusals caused by the state", with 15 and 16 of document 02: the number of each
+-- Document 01, "Refusals caused by the input" and "Refusals caused by the state", with 15 to 17 of document 02: the number of each
 -- refusal, the place that it names, and what caused it; and how a series of checks picks the first fault.
 use mathlib.Core.Path.{_≡_}
 use mathlib.Core.Bool.{Bool}
@@ -36,8 +36,9 @@ inputNumber input.TooLong = 13
 inputNumber input.BufferShort = 14
 inputNumber input.NoOrder = 15
 inputNumber (input.Circle p) = 16
+inputNumber (input.NeedAboveBurst p) = 17
 
--- the place: 3, 4, 5, 7 and 16 name one
+-- the place: 3, 4, 5, 7, 16 and 17 name one
 abbrev pub inputPlace : InputRefusal → Named
 inputPlace input.Denominator = named.Nowhere
 inputPlace input.Count = named.Nowhere
@@ -55,6 +56,7 @@ inputPlace input.TooLong = named.Nowhere
 inputPlace input.BufferShort = named.Nowhere
 inputPlace input.NoOrder = named.Nowhere
 inputPlace (input.Circle p) = named.Place p
+inputPlace (input.NeedAboveBurst p) = named.Place p
 
 -- the number of each refusal that the state causes
 abbrev pub stateNumber : StateRefusal → ℕ

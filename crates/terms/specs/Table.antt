@@ -1,7 +1,8 @@
--- Document 01, "Table and limits", with checks 1 to 6 in their order: 1, 2, then 3, 4, 5 place by place, then 6.
+-- Document 01, "Table and limits", and its checks 1 to 6. 3, 4 and 5 look at one row, and all three at a place ahead of the next place. Where a
+-- table asks to be admitted they are followed there by 17 (document 02, request 6).
 use mathlib.Core.Bool.{Bool, _&&_}
 use mathlib.Core.List.{List, [], _∷_}
-use Prim.Native.Nat.{ℕ, suc}
+use Prim.Native.Nat.{ℕ, suc, _*_}
 use lib.Dec.{leb, eqb}
 use lib.ListN.{take, drop, getD, replicate}
 use Rattle.lists.specs.Choices.{inRange}
@@ -87,13 +88,27 @@ heldTo b x = gate (b .outside) (inRange (b .low) (b .high) x) faultless
 abbrev pub boundsOf : code.Bounds → Bounds
 boundsOf b = record { low = b .low; high = b .high; outside = refusalOf (cause.Input (b .outside)) }
 
--- checks 3, 4 and 5 of the requestor at place p
-unfoldable pub rowVerdict : ℕ → ℕ → Requestor → Verdict
-rowVerdict d p r =
+-- checks 3, 4 and 5 of the requestor at place p: each field within its limits
+unfoldable pub fieldsVerdict : ℕ → ℕ → Requestor → Verdict
+fieldsVerdict d p r =
     then (heldTo (rateBounds d p) (r .rate))
     (then (heldTo (burstBounds d p) (r .burst))
     (then (heldTo (needBounds p) (r .need .0))
     (heldTo (withinBounds p) (r .within .0))))
+
+-- check 17 of it: its j transfers, D each, fit its burst
+unfoldable pub needFits : ℕ → Requestor → Bool
+needFits d r = leb (r .need .0 * d) (r .burst)
+
+unfoldable pub needFitsVerdict : ℕ → ℕ → Requestor → Verdict
+needFitsVerdict d p r = gate (refusalAt 17 p) (needFits d r) faultless
+
+-- what is checked of it in a state's table; and where a table asks to be admitted
+abbrev pub stateRowVerdict : ℕ → ℕ → Requestor → Verdict
+stateRowVerdict d p r = fieldsVerdict d p r
+
+unfoldable pub offeredRowVerdict : ℕ → ℕ → Requestor → Verdict
+offeredRowVerdict d p r = then (fieldsVerdict d p r) (needFitsVerdict d p r)
 
 -- a check place by place, from place p on
 unfoldable pub eachPlace : (ℕ → Requestor → Verdict) → ℕ → List Requestor → Verdict
@@ -108,11 +123,23 @@ tailVerdict t = gate (refusal 2) (every requestorClear (drop (t .count) (t .requ
 unfoldable pub rateSumVerdict : Table → Verdict
 rateSumVerdict t = gate (refusal 6) (leb (total rate (requestorsOf t)) (t .denominator)) faultless
 
--- checks 1 to 6; `limit` is how many places there is room for
-unfoldable pub tableVerdict : ℕ → Table → Verdict
-tableVerdict limit t =
+-- 17 alone, with the lowest place whose need does not fit
+abbrev pub needsFitVerdict : Table → Verdict
+needsFitVerdict t = eachPlace (needFitsVerdict (t .denominator)) 0 (requestorsOf t)
+
+-- 1, 2, then what is checked of each row, and then 6; `limit` is how many places there is room for
+unfoldable pub verdictBy : (row : (d p : ℕ) → Requestor → Verdict) → ℕ → Table → Verdict
+verdictBy row limit t =
     then (heldTo denominatorBounds (t .denominator))
     (then (heldTo (countBounds limit) (t .count))
     (then (tailVerdict t)
-    (then (eachPlace (rowVerdict (t .denominator)) 0 (requestorsOf t))
+    (then (eachPlace (row (t .denominator)) 0 (requestorsOf t))
     (rateSumVerdict t))))
+
+-- checks 1 to 6: those of a state's table, in test 23
+abbrev pub tableVerdict : ℕ → Table → Verdict
+tableVerdict limit t = verdictBy stateRowVerdict limit t
+
+-- and with 17 among them: those of a table that asks to be admitted, ahead of 7
+abbrev pub offeredVerdict : ℕ → Table → Verdict
+offeredVerdict limit t = verdictBy offeredRowVerdict limit t

@@ -2,7 +2,7 @@
 ghost use mathlib.Core.Path.{_≡_};
 ghost use Rattle.terms.specs.Refusals.{inputNumber, inputPlace, stateNumber, refusalOf, verdictOf, then};
 
-// Refusals 1 to 16. Those that name a place hold it.
+// Refusals 1 to 17. Those that name a place hold it.
 pub enum InputRefusal {
     Denominator,
     Count,
@@ -20,6 +20,7 @@ pub enum InputRefusal {
     BufferShort,
     NoOrder,
     Circle(usize),
+    NeedAboveBurst(usize),
 }
 
 // Refusals 21 to 23.
@@ -80,6 +81,7 @@ fn input_number(i: InputRefusal) -> u32
         InputRefusal::BufferShort => 14,
         InputRefusal::NoOrder => 15,
         InputRefusal::Circle(_) => 16,
+        InputRefusal::NeedAboveBurst(_) => 17,
     }
 }
 
@@ -92,6 +94,7 @@ fn input_place(i: InputRefusal) -> Named
         InputRefusal::Need(p) => Named::Place(p),
         InputRefusal::Finish(p) => Named::Place(p),
         InputRefusal::Circle(p) => Named::Place(p),
+        InputRefusal::NeedAboveBurst(p) => Named::Place(p),
         InputRefusal::Denominator => Named::Nowhere,
         InputRefusal::Count => Named::Nowhere,
         InputRefusal::RateSum => Named::Nowhere,

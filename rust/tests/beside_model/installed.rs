@@ -1,5 +1,5 @@
-//! Change request 1, seen from outside: a table whose needs have just the slots of the former finish figure still starts, and one slot below the
-//! present figure a table is refused 7.
+//! Change request 1, seen from outside: a table whose needs have just the slots of the former finish figure still starts, if its bursts hold its
+//! needs as request 6 asks, and one slot below the present figure a table is refused 7.
 
 use justrave::{Arbiter, Slots, Transfers};
 
@@ -22,7 +22,7 @@ fn tables_of_the_former_figure_start() {
         for place in 0..table.count as usize {
             table.requestors[place].within = former_finish(&table, place);
         }
-        let line: Arbiter = Arbiter::start(&table.bytes(), Slots(0)).expect("no installed basin is turned away");
+        let line: Arbiter = Arbiter::start(&table.bytes(), Slots(0)).expect("no basin of that figure is turned away");
         for (place, row) in table.used().iter().enumerate() {
             let finish = line.figures(place, Transfers(row.need)).expect("the place is there").finish.0;
             assert!(finish == row.within || finish + 1 == row.within, "{finish} for {table:?} at {place}");

@@ -7,6 +7,7 @@ mod demand3;
 mod differential;
 mod installed;
 mod model;
+mod needs;
 mod order;
 mod rooms;
 mod rows;

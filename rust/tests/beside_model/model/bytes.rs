@@ -33,13 +33,15 @@ impl Reader<'_> {
         check(number).map(|()| number)
     }
 
+    /// The four numbers of a place, and 17 behind them.
     fn requestor(&mut self, denominator: u64, place: usize) -> Result<Requestor, Fault> {
-        Ok(Requestor {
+        let requestor = Requestor {
             rate: self.checked(|rate| check_rate(rate, denominator, place))?,
             burst: self.checked(|burst| check_burst(burst, denominator, place))?,
             need: self.checked(|need| check_need(need, place))?,
             within: self.checked(|within| check_within(within, place))?,
-        })
+        };
+        requestor.check_need_in_burst(denominator, place).map(|()| requestor)
     }
 }
 

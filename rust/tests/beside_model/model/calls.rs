@@ -23,8 +23,7 @@ impl<const PLACES: usize> State<PLACES> {
 
     /// From a table given as numbers.
     pub fn start_numbers(table: &Table<PLACES>, first: u64) -> Result<State<PLACES>, Fault> {
-        table.check_numbers()?;
-        table.check_finishes()?;
+        table.admit()?;
         State::open(*table, first)
     }
 
@@ -78,10 +77,10 @@ impl<const PLACES: usize> State<PLACES> {
         Ok((self.table.denominator * grants) as i64 - due as i64)
     }
 
-    /// How many bytes were written.
+    /// How many bytes were written. Of admission's checks a sound state's table can fail 17 and 7.
     pub fn write_table(&self, buffer: &mut [u8]) -> Result<usize, Fault> {
         self.check()?;
-        self.table.check_finishes()?;
+        self.table.admit()?;
         self.table.write(buffer)
     }
 
@@ -99,7 +98,7 @@ impl<const PLACES: usize> State<PLACES> {
 
     /// 23.
     pub(super) fn check(&self) -> Result<(), Fault> {
-        pass(self.table.check_numbers().is_ok() && self.slot <= MAX_SLOT && self.accounts_are_sound(), 23)
+        pass(self.table.check_limits().is_ok() && self.slot <= MAX_SLOT && self.accounts_are_sound(), 23)
     }
 
     fn accounts_are_sound(&self) -> bool {

@@ -12,7 +12,7 @@ pub fn order(bytes: &[u8], buffer: &mut [u8]) -> Result<usize, Fault> {
 }
 
 impl<const PLACES: usize> Table<PLACES> {
-    /// Puts the requestors of a table that passed 1 to 6 in the order of the rule. 15.
+    /// Puts the requestors of a table that passed 1 to 6 and 17 in the order of the rule. 15.
     fn put_in_order(&mut self) -> Result<(), Fault> {
         let denominator = self.denominator;
         for place in (0..self.count as usize).rev() {

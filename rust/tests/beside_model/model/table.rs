@@ -49,11 +49,23 @@ pub fn check_within(within: u64, place: usize) -> Result<(), Fault> {
 }
 
 impl Requestor {
-    fn check(&self, denominator: u64, place: usize) -> Result<(), Fault> {
+    /// 3, 4 and 5: all that is asked of a row in a state.
+    fn check_limits(&self, denominator: u64, place: usize) -> Result<(), Fault> {
         check_rate(self.rate, denominator, place)?;
         check_burst(self.burst, denominator, place)?;
         check_need(self.need, place)?;
         check_within(self.within, place)
+    }
+
+    /// 3, 4, 5 and 17: what is asked of a row in a table that is to be accepted.
+    fn check(&self, denominator: u64, place: usize) -> Result<(), Fault> {
+        self.check_limits(denominator, place)?;
+        self.check_need_in_burst(denominator, place)
+    }
+
+    /// 17, of a row that passed 5, so that the product is a small one.
+    pub fn check_need_in_burst(&self, denominator: u64, place: usize) -> Result<(), Fault> {
+        pass_at(self.need * denominator <= self.burst, 17, Some(place))
     }
 }
 
@@ -63,13 +75,24 @@ impl<const PLACES: usize> Table<PLACES> {
         &self.requestors[..self.count as usize]
     }
 
-    /// 1 to 6, in the order for a table given as numbers.
-    pub fn check_numbers(&self) -> Result<(), Fault> {
+    /// 1 to 7 and 17, in the order for a table given as numbers.
+    pub fn admit(&self) -> Result<(), Fault> {
+        self.check_numbers(Requestor::check)?;
+        self.check_finishes()
+    }
+
+    /// 1 to 6 in the same order: all that is asked of a table in a state.
+    pub fn check_limits(&self) -> Result<(), Fault> {
+        self.check_numbers(Requestor::check_limits)
+    }
+
+    /// The checks of a table but those of its finish figures, with this one for a row.
+    fn check_numbers(&self, check_row: impl Fn(&Requestor, u64, usize) -> Result<(), Fault>) -> Result<(), Fault> {
         check_denominator(self.denominator)?;
         check_count(self.count, PLACES)?;
         pass(self.requestors[self.count as usize..].iter().all(|past| *past == Requestor::default()), 2)?;
         for (place, requestor) in self.used().iter().enumerate() {
-            requestor.check(self.denominator, place)?;
+            check_row(requestor, self.denominator, place)?;
         }
         self.check_rate_sum()
     }

@@ -32,7 +32,7 @@ fn each_row_through_the_exported_functions() {
     for call in Call::ALL {
         assert!(counts.contains_key(call.name()), "there is no row of {}", call.name());
     }
-    assert!(all >= 821, "of the first 821 rows only {all} are there");
+    assert!(all >= 949, "of the first 949 rows only {all} are there");
 }
 
 #[test]

@@ -40,9 +40,9 @@ pub fn invented_on<const ROOM: usize>(chance: &mut Chance, table: Table<ROOM>) -
     state
 }
 
-/// The same with any accepted table, of which a need may be out of reach.
+/// The same with any accepted table, of which a need may be out of reach, or with one of which a need is above its burst.
 pub fn invented<const ROOM: usize>(chance: &mut Chance) -> State<ROOM> {
-    let table = tables::accepted(chance);
+    let table = if chance.one_in(4) { tables::greedy(chance) } else { tables::accepted(chance) };
     let mut state = invented_on(chance, table);
     if chance.one_in(3) {
         let place = chance.index(table.count as usize);

@@ -12,7 +12,8 @@ pub fn accepted<const ROOM: usize>(chance: &mut Chance) -> Table<ROOM> {
     table.denominator = denominator(chance, table.count);
     let rates = rates(chance, table.denominator, table.count);
     for (row, rate) in table.requestors.iter_mut().zip(rates) {
-        *row = Requestor { rate, burst: burst(chance, table.denominator), need: need(chance), within: 1 };
+        let (burst, need) = burst_and_need(chance, table.denominator);
+        *row = Requestor { rate, burst, need, within: 1 };
     }
     for place in 0..table.count as usize {
         table.requestors[place].within = within(chance, table.finish(place, table.requestors[place].need));
@@ -37,8 +38,9 @@ pub fn tight_of(chance: &mut Chance, count: u64) -> Table {
     let mut table = Table { denominator: chance.within(count, most), count, ..Table::default() };
     let rates = rates(chance, table.denominator, count);
     for (row, rate) in table.requestors.iter_mut().zip(rates) {
-        let burst = chance.within(table.denominator, 3 * table.denominator);
-        *row = Requestor { rate, burst, need: chance.within(1, 4), within: 1 };
+        let need = chance.within(1, 3);
+        let burst = chance.within(need * table.denominator, 3 * table.denominator);
+        *row = Requestor { rate, burst, need, within: 1 };
     }
     for place in 0..count as usize {
         table.requestors[place].within = table.finish(place, table.requestors[place].need);
@@ -74,13 +76,14 @@ pub fn shuffled(chance: &mut Chance, mut table: Table) -> Table {
 }
 
 /// Bytes of lists of every kind: near the edge, accepted in some order, with numbers out of their limits, with too much of a rate,
-/// and damaged; and those of `bytes`.
+/// with a need above its burst, and damaged; and those of `bytes`.
 pub fn list_bytes(chance: &mut Chance) -> Vec<u8> {
     let most = chance.pick(&[2, 3, 6, MAX_PLACES as u64]);
-    let list = match chance.within(0, 5) {
+    let list = match chance.within(0, 6) {
         0..=2 => listed(chance, most),
         3 => accepted(chance),
         4 => crowded(chance),
+        5 => greedy(chance),
         _ => doubtful(chance),
     };
     let list = shuffled(chance, list);
@@ -127,9 +130,12 @@ fn burst(chance: &mut Chance, denominator: u64) -> u64 {
     chance.within(denominator, most)
 }
 
-fn need(chance: &mut Chance) -> u64 {
-    let most = chance.pick(&[1, 2, 5, 255]);
-    chance.within(1, most)
+/// A burst and a need's transfers that it holds, often just so many.
+fn burst_and_need(chance: &mut Chance, denominator: u64) -> (u64, u64) {
+    let burst = burst(chance, denominator);
+    let most = chance.pick(&[1, 2, 5, 255, 255]).min(burst / denominator);
+    let need = chance.within(1, most);
+    (if chance.one_in(3) { need * denominator } else { burst }, need)
 }
 
 /// Slots for a need whose finish figure is given: often exactly so many.
@@ -155,7 +161,7 @@ fn change_number<const ROOM: usize>(chance: &mut Chance, table: &mut Table<ROOM>
     match chance.within(0, 5) {
         0 => table.denominator = chance.pick(&[0, 1, d.saturating_sub(1), 65_535, 65_536, most]),
         1 | 2 => row.rate = chance.pick(&[0, 1, row.rate + 1, d, d + 1, most]),
-        3 => row.burst = chance.pick(&[0, d.saturating_sub(1), d, 16_777_216, 16_777_217, most]),
+        3 => row.burst = chance.pick(&[0, d.saturating_sub(1), d, 1.max(row.burst) - 1, 16_777_216, 16_777_217, most]),
         4 => row.need = chance.pick(&[0, row.need + 1, 255, 256, most]),
         _ => row.within = chance.pick(&[0, 1, row.within.saturating_sub(1), 1_073_741_824, 1_073_741_825, most]),
     }
@@ -191,12 +197,27 @@ fn long_form(chance: &mut Chance) -> Vec<u8> {
     chance.pick(&forms).to_vec()
 }
 
-/// Bytes of every kind: accepted, with numbers out of their limits, with another N, damaged, and without any plan. N is often above a
-/// smaller room.
+/// A table's bytes with any one of them changed to any other, with any one behind them, and cut off anywhere.
+pub fn neighbours(table: &[u8]) -> Vec<Vec<u8>> {
+    let mut all: Vec<Vec<u8>> = (0..=table.len()).map(|length| table[..length].to_vec()).collect();
+    for byte in 0..=255 {
+        all.push([table, &[byte]].concat());
+        for at in 0..table.len() {
+            let mut other = table.to_vec();
+            other[at] = byte;
+            all.push(other);
+        }
+    }
+    all
+}
+
+/// Bytes of every kind: accepted, with numbers out of their limits, with a need above its burst, with another N, damaged, and without any
+/// plan. N is often above a smaller room.
 pub fn bytes(chance: &mut Chance) -> Vec<u8> {
-    let table: Table = match chance.within(0, 3) {
-        0 | 1 => accepted(chance),
-        2 => crowded(chance),
+    let table: Table = match chance.within(0, 5) {
+        0..=2 => accepted(chance),
+        3 => crowded(chance),
+        4 => greedy(chance),
         _ => doubtful(chance),
     };
     match chance.within(0, 5) {
@@ -221,6 +242,23 @@ fn crowded<const ROOM: usize>(chance: &mut Chance) -> Table<ROOM> {
     table
 }
 
+/// A table with one need or two that their bursts do not hold, often by no more than one part of a transfer. All numbers are within their
+/// limits, and the rates too; a finish figure may be above its slots.
+pub fn greedy<const ROOM: usize>(chance: &mut Chance) -> Table<ROOM> {
+    let mut table = accepted(chance);
+    let denominator = table.denominator;
+    for _ in 0..chance.pick(&[1, 1, 2]) {
+        let place = chance.index(table.count as usize);
+        let row = &mut table.requestors[place];
+        let most = chance.pick(&[2, 3, 255]);
+        row.need = chance.within(2, most);
+        let too_little = row.need * denominator - 1;
+        row.burst = chance.pick(&[too_little, too_little, (row.need - 1) * denominator, denominator]);
+        row.within = chance.pick(&[row.within, 1 << 30]);
+    }
+    table
+}
+
 /// A table's bytes behind another N: too many rows, too few, or an N that is out of its limits.
 fn other_count(chance: &mut Chance, table: Table) -> Vec<u8> {
     let digits = crate::model::number_bytes(table.denominator).len();
@@ -230,12 +268,13 @@ fn other_count(chance: &mut Chance, table: Table) -> Vec<u8> {
     bytes
 }
 
-/// A table given as numbers, of every kind: accepted, with numbers out of their limits, with another N, and with numbers past its
-/// last place. N has at most 32 bits, and so has every number but those of a need.
+/// A table given as numbers, of every kind: accepted, with numbers out of their limits, with a need above its burst, with another N, and
+/// with numbers past its last place. N has at most 32 bits, and so has every number but those of a need.
 pub fn numbers<const ROOM: usize>(chance: &mut Chance) -> Table<ROOM> {
-    let mut table = match chance.within(0, 5) {
+    let mut table = match chance.within(0, 6) {
         0..=2 => accepted(chance),
         3 => crowded(chance),
+        4 => greedy(chance),
         _ => doubtful(chance),
     };
     for row in &mut table.requestors {

@@ -20,7 +20,7 @@ impl Tally {
         self.expect("figures", &[0, 5, 11, 23]);
         self.expect("chain", &[0, 11, 16, 23]);
         self.expect("lead", &[0, 11, 13, 23]);
-        self.expect("write", &[0, 7, 14, 23]);
+        self.expect("write", &[0, 7, 14, 17, 23]);
         self.expect("account", &[0, 11, 23]);
         self.expect("standing", &[0, 23]);
     }

@@ -25,8 +25,8 @@ refusal-code-requires c κs = search needs
 returns-2 : tie.Need-returns-2
 returns-2 c = let a = c .before .before .before .before .before .before .before .before .args in write-23 maxPlaces (a .state .now) (a .buffer .now) (a .answer .now) (c .before .before .before .before .lengths-hold .result) (c .before .before .before .before .lengths-hold .ensures) (not-false _ (c .before .before .before .if1 .left)) (sym (c .before .before .is-sound .ensures) ∙ not-true _ (c .before .if2 .taken)) _ (c .refusal-code .ensures)
 
-write-state-requires : tie.Need-write-state-requires
-write-state-requires c κs = let a = c .before .before .before .before .before .before .before .before .args in (lent-right maxPlaces (a .state .now) _ (c .before .before .before .before .lengths-hold .result) (c .before .before .before .before .lengths-hold .ensures) (not-false _ (c .before .before .before .if1 .left)), (sym (c .before .before .is-sound .ensures) ∙ not-false _ (c .before .if2 .left)))
+admit-and-write-requires : tie.Need-admit-and-write-requires
+admit-and-write-requires c κs = let a = c .before .before .before .before .before .before .before .before .args in lent-right maxPlaces (a .state .now) _ (c .before .before .before .before .lengths-hold .result) (c .before .before .before .before .lengths-hold .ensures) (not-false _ (c .before .before .before .if1 .left))
 
 enum-known-told : tie.Need-enum-known-told
 enum-known-told c = search needs
@@ -38,7 +38,7 @@ enum-known-told-2 : tie.Need-enum-known-told-2
 enum-known-told-2 c = search needs
 
 refusal-code-requires-2 : tie.Need-refusal-code-requires-2
-refusal-code-requires-2 c κs = let a = c .before .before .before .before .before .before .before .before .before .before .before .before .before .before .args in write-below maxPlaces (a .state .now) (a .buffer .now) (a .answer .now) (c .before .before .before .before .before .before .before .before .before .before .lengths-hold .result) (c .before .before .before .before .before .before .before .before .before .before .lengths-hold .ensures) (not-false _ (c .before .before .before .before .before .before .before .before .before .if1 .left)) (sym (c .before .before .before .before .before .before .before .before .is-sound .ensures) ∙ not-false _ (c .before .before .before .before .before .before .before .if2 .left)) _ (c .before .before .before .before .before .write-state .ensures) _ (ap writeAnswerOf (c .before .told2 .given .1))
+refusal-code-requires-2 c κs = let a = c .before .before .before .before .before .before .before .before .before .before .before .before .before .before .args in write-below maxPlaces (a .state .now) (a .buffer .now) (a .answer .now) (c .before .before .before .before .before .before .before .before .before .before .lengths-hold .result) (c .before .before .before .before .before .before .before .before .before .before .lengths-hold .ensures) (not-false _ (c .before .before .before .before .before .before .before .before .before .if1 .left)) (sym (c .before .before .before .before .before .before .before .before .is-sound .ensures) ∙ not-false _ (c .before .before .before .before .before .before .before .if2 .left)) _ (c .before .before .before .before .before .admit-and-write .ensures) _ (ap writeAnswerOf (c .before .told2 .given .1))
 
 same-length : tie.Need-same-length
 same-length c = search needs
@@ -50,7 +50,7 @@ returns-3 : tie.Need-returns-3
 returns-3 c =
     let a = c .before .before .before .before .before .before .before .before .before .before .before .before .before .before .args in
     let put = one-put (a .answer .now) _ (beside maxPlaces (a .state .now) (a .answer .now) 1 (c .before .before .before .before .before .before .before .before .before .before .lengths-hold .result) (c .before .before .before .before .before .before .before .before .before .before .lengths-hold .ensures) (not-false _ (c .before .before .before .before .before .before .before .before .before .if1 .left))) in
-    write-told maxPlaces (a .state .now) (a .buffer .now) (a .answer .now) (c .before .before .before .before .before .before .before .before .before .before .lengths-hold .result) (c .before .before .before .before .before .before .before .before .before .before .lengths-hold .ensures) (not-false _ (c .before .before .before .before .before .before .before .before .before .if1 .left)) (sym (c .before .before .before .before .before .before .before .before .is-sound .ensures) ∙ not-false _ (c .before .before .before .before .before .before .before .if2 .left)) _ (c .before .before .before .before .before .write-state .ensures) _ _ (put ∙ ap (λ x. writeWords (a .answer .now) (writeAnswerOf x)) (sym (c .before .told .given .1))) (ap (λ x. writeCode (writeAnswerOf x)) (sym (c .before .told .given .1)))
+    write-told maxPlaces (a .state .now) (a .buffer .now) (a .answer .now) (c .before .before .before .before .before .before .before .before .before .before .lengths-hold .result) (c .before .before .before .before .before .before .before .before .before .before .lengths-hold .ensures) (not-false _ (c .before .before .before .before .before .before .before .before .before .if1 .left)) (sym (c .before .before .before .before .before .before .before .before .is-sound .ensures) ∙ not-false _ (c .before .before .before .before .before .before .before .if2 .left)) _ (c .before .before .before .before .before .admit-and-write .ensures) _ _ (put ∙ ap (λ x. writeWords (a .answer .now) (writeAnswerOf x)) (sym (c .before .told .given .1))) (ap (λ x. writeCode (writeAnswerOf x)) (sym (c .before .told .given .1)))
 
 same-length-3 : tie.Need-same-length-3
 same-length-3 c = search needs
@@ -58,7 +58,7 @@ same-length-3 c = search needs
 returns-4 : tie.Need-returns-4
 returns-4 c =
     let a = c .before .before .before .before .before .before .before .before .before .before .before .before .before .before .before .args in
-    write-told maxPlaces (a .state .now) (a .buffer .now) (a .answer .now) (c .before .before .before .before .before .before .before .before .before .before .before .lengths-hold .result) (c .before .before .before .before .before .before .before .before .before .before .before .lengths-hold .ensures) (not-false _ (c .before .before .before .before .before .before .before .before .before .before .if1 .left)) (sym (c .before .before .before .before .before .before .before .before .before .is-sound .ensures) ∙ not-false _ (c .before .before .before .before .before .before .before .before .if2 .left)) _ (c .before .before .before .before .before .before .write-state .ensures) _ _ (ap (λ x. writeWords (a .answer .now) (writeAnswerOf x)) (sym (c .before .before .told2 .given .1))) (c .refusal-code2 .ensures ∙ ap (λ x. writeCode (writeAnswerOf x)) (sym (c .before .before .told2 .given .1)))
+    write-told maxPlaces (a .state .now) (a .buffer .now) (a .answer .now) (c .before .before .before .before .before .before .before .before .before .before .before .lengths-hold .result) (c .before .before .before .before .before .before .before .before .before .before .before .lengths-hold .ensures) (not-false _ (c .before .before .before .before .before .before .before .before .before .before .if1 .left)) (sym (c .before .before .before .before .before .before .before .before .before .is-sound .ensures) ∙ not-false _ (c .before .before .before .before .before .before .before .before .if2 .left)) _ (c .before .before .before .before .before .before .admit-and-write .ensures) _ _ (ap (λ x. writeWords (a .answer .now) (writeAnswerOf x)) (sym (c .before .before .told2 .given .1))) (c .refusal-code2 .ensures ∙ ap (λ x. writeCode (writeAnswerOf x)) (sym (c .before .before .told2 .given .1)))
 
 pub justrave-write-spec : {M : Type 1} → statement M
 justrave-write-spec =
@@ -69,7 +69,7 @@ justrave-write-spec =
     is-sound-requires
     refusal-code-requires
     returns-2
-    write-state-requires
+    admit-and-write-requires
     enum-known-told
     slice-write-answer
     enum-known-told-2

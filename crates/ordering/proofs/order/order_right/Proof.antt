@@ -1,4 +1,4 @@
--- `ordering::order::order_right` meets its contract. Checks 1 to 6, and then the search. Assumes nothing.
+-- `ordering::order::order_right` meets its contract. Checks 1 to 6 and 17, and then the search. Assumes nothing.
 use mathlib.Core.Path.{ap, sym, _∙_}
 use Rattle.terms.specs.Refusals.{verdictOf}
 use Rattle.terms.proofs.Checks.{gate-passed}

@@ -20,6 +20,9 @@ enum-known-i-4 c = search needs
 enum-known-i-5 : tie.Need-enum-known-i-5
 enum-known-i-5 c = search needs
 
+enum-known-i-6 : tie.Need-enum-known-i-6
+enum-known-i-6 c = search needs
+
 enum-told : tie.Need-enum-told
 enum-told c = search needs
 
@@ -69,7 +72,7 @@ returns-5 : tie.Need-returns-5
 returns-5 c = ap inputPlace (sym (c .before .i5 .given .1))
 
 returns-6 : tie.Need-returns-6
-returns-6 c = search needs
+returns-6 c = ap inputPlace (sym (c .before .i6 .given .1))
 
 returns-7 : tie.Need-returns-7
 returns-7 c = search needs
@@ -101,6 +104,9 @@ returns-15 c = search needs
 returns-16 : tie.Need-returns-16
 returns-16 c = search needs
 
+returns-17 : tie.Need-returns-17
+returns-17 c = search needs
+
 pub input-place-spec : {M : Type 1} → statement M
 input-place-spec =
     tie.close
@@ -110,6 +116,7 @@ input-place-spec =
     enum-known-i-3
     enum-known-i-4
     enum-known-i-5
+    enum-known-i-6
     enum-told
     enum-told-2
     enum-told-3
@@ -136,4 +143,5 @@ input-place-spec =
     returns-13
     returns-14
     returns-15
-    returns-16)
+    returns-16
+    returns-17)

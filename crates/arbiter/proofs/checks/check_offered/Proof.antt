@@ -1,4 +1,4 @@
--- `arbiter::checks::check_table` meets its contract. D and N first, since the rest reads as many rows as N says; then the tail and
+-- `arbiter::checks::check_offered` meets its contract. D and N first, since the rest reads as many rows as N says; then the tail and
 -- the rows; the rates are added up where all of these found nothing, so that their sum fits. Assumes nothing.
 use mathlib.Core.Path.{_≡_, ap, ap₂, sym, _∙_}
 use native.Mathlib.Omega.{arith}
@@ -8,10 +8,10 @@ use Rattle.terms.specs.Refusals.{verdictOf, faultless, then}
 use Rattle.terms.specs.Table.{tailVerdict}
 use Rattle.layout.specs.Words.{roomOf}
 use Rattle.layout.proofs.RoundTrip.{right}
-use Rattle.admission.specs.Checked.{tableIn, limitsVerdict, rowsVerdict, Counted}
+use Rattle.admission.specs.Checked.{tableIn, limitsVerdict, offeredRowsVerdict, Counted}
 use Rattle.arbiter.proofs.Verdicts.{limits-fault, limits-count, rows-fault, rows-pass, sum-most}
-use Rattle.arbiter.proofs.checks.check_table.Statement.{statement}
-use Rattle.arbiter.proofs.checks.check_table.Tie as tie
+use Rattle.arbiter.proofs.checks.check_offered.Statement.{statement}
+use Rattle.arbiter.proofs.checks.check_offered.Tie as tie
 
 -- D and N were found within their limits
 limits : (c : tie.After-enum-told2) → let w = c .before .before .before .before .args .words .now in limitsVerdict (roomOf w) (tableIn w) ≡ faultless
@@ -21,10 +21,10 @@ counted : (c : tie.After-enum-told2) → Counted maxPlaces (c .before .before .b
 counted c = let a = c .before .before .before .before in record { right = a .pre; count-most = limits-count _ (tableIn (a .args .words .now)) (limits c) }
 
 -- what the rows past place N−1 and up to it are found to be
-places : (c : tie.After-first-fault) → let t = tableIn (c .before .before .before .before .before .before .before .args .words .now) in verdictOf (c .first-fault .result) ≡ then (tailVerdict t) (rowsVerdict t)
+places : (c : tie.After-first-fault) → let t = tableIn (c .before .before .before .before .before .before .before .args .words .now) in verdictOf (c .first-fault .result) ≡ then (tailVerdict t) (offeredRowsVerdict t)
 places c = c .first-fault .ensures ∙ ap₂ then (c .before .before .check-tail .ensures) (c .before .check-rows .ensures)
 
-passed : (c : tie.After-enum-told4) → let t = tableIn (c .before .before .before .before .before .before .before .before .before .args .words .now) in then (tailVerdict t) (rowsVerdict t) ≡ faultless
+passed : (c : tie.After-enum-told4) → let t = tableIn (c .before .before .before .before .before .before .before .before .before .args .words .now) in then (tailVerdict t) (offeredRowsVerdict t) ≡ faultless
 passed c = sym (places (c .before .before)) ∙ ap verdictOf (c .enum-told4 .given .1)
 
 check-limits-requires : tie.Need-check-limits-requires
@@ -70,8 +70,8 @@ returns-2 c =
 returns-3 : tie.Need-returns-3
 returns-3 c = c .check-rate-sum .ensures ∙ sym (rows-pass _ _ (limits (c .before .before .before .before .before .before)) (passed (c .before)))
 
-pub check-table-spec : {M : Type 1} → statement M
-check-table-spec =
+pub check-offered-spec : {M : Type 1} → statement M
+check-offered-spec =
     tie.close
     (tie.spec
     check-limits-requires

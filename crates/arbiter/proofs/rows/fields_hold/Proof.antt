@@ -3,8 +3,8 @@ use borrow.Author.Tests.{not-true, not-false}
 use Rattle.terms.specs.Table.{rateBounds, burstBounds, needBounds, withinBounds}
 use Rattle.terms.proofs.AsTests.{admitted, row-test}
 use borrow.Author.Needs.{needs}
-use Rattle.arbiter.proofs.rows.row_holds.Statement.{statement}
-use Rattle.arbiter.proofs.rows.row_holds.Tie as tie
+use Rattle.arbiter.proofs.rows.fields_hold.Statement.{statement}
+use Rattle.arbiter.proofs.rows.fields_hold.Tie as tie
 
 rate-bounds-requires : tie.Need-rate-bounds-requires
 rate-bounds-requires c κs = search needs
@@ -60,8 +60,8 @@ returns-4 c =
     let within = admitted _ _ (withinBounds (a .p)) (a .r .within .0) (c .admits4 .ensures) (c .before .within-bounds .ensures) in
     sym (row-test (a .d) (a .p) (a .r) ∙ rw (rate, burst, need) within)
 
-pub row-holds-spec : {M : Type 1} → statement M
-row-holds-spec =
+pub fields-hold-spec : {M : Type 1} → statement M
+fields-hold-spec =
     tie.close
     (tie.spec
     rate-bounds-requires

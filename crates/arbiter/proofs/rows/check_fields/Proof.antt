@@ -1,11 +1,11 @@
--- `arbiter::rows::check_row` meets its contract. Four numbers held to their bounds, joined in the order of the definition. Assumes
+-- `arbiter::rows::check_fields` meets its contract. Four numbers held to their bounds, joined in the order of the definition. Assumes
 -- nothing.
 use mathlib.Core.Path.{_∙_}
-use Rattle.terms.specs.Table.{rowVerdict}
+use Rattle.terms.specs.Table.{fieldsVerdict}
 use Rattle.terms.proofs.Checks.{held-by}
 use borrow.Author.Needs.{needs}
-use Rattle.arbiter.proofs.rows.check_row.Statement.{statement}
-use Rattle.arbiter.proofs.rows.check_row.Tie as tie
+use Rattle.arbiter.proofs.rows.check_fields.Statement.{statement}
+use Rattle.arbiter.proofs.rows.check_fields.Tie as tie
 
 rate-bounds-requires : tie.Need-rate-bounds-requires
 rate-bounds-requires c κs = search needs
@@ -41,7 +41,7 @@ first-fault-requires-3 : tie.Need-first-fault-requires-3
 first-fault-requires-3 c κs = search needs
 
 returns : tie.Need-returns
-unfolding rowVerdict
+unfolding fieldsVerdict
 returns c =
     let rate = held-by _ _ _ _ (c .before .before .before .before .before .before .before .before .before .hold .ensures) (c .before .before .before .before .before .before .before .before .before .before .rate-bounds .ensures) in
     let burst = held-by _ _ _ _ (c .before .before .before .before .before .before .before .hold2 .ensures) (c .before .before .before .before .before .before .before .before .burst-bounds .ensures) in
@@ -49,8 +49,8 @@ returns c =
     let within = held-by _ _ _ _ (c .before .before .before .hold4 .ensures) (c .before .before .before .before .within-bounds .ensures) in
     c .first-fault3 .ensures ∙ rw (c .before .first-fault2 .ensures, c .before .before .first-fault .ensures, rate, burst, need, within)
 
-pub check-row-spec : {M : Type 1} → statement M
-check-row-spec =
+pub check-fields-spec : {M : Type 1} → statement M
+check-fields-spec =
     tie.close
     (tie.spec
     rate-bounds-requires
