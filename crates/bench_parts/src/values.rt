@@ -9,9 +9,16 @@ use terms::place::Requestor;
 use terms::place::no_requestor;
 use terms::units::Slots;
 use terms::units::Transfers;
+ghost use mathlib.Core.Path.{_≡_};
+ghost use mathlib.Core.List.{[], _∷_};
+ghost use Rattle.terms.specs.Limits.{maxPlaces};
+ghost use Rattle.terms.specs.Table.{tableOf};
+ghost use Rattle.arbiter.specs.ByValue.{given};
 
 // A rate n, a burst b, and the need of one transfer within l slots.
-pub fn row(n: u64, b: u64, l: u64) -> Requestor {
+pub fn row(n: u64, b: u64, l: u64) -> Requestor
+    ensures { λ r. ⌜ r ≡ record { rate = n; burst = b; need = record { 0 = 1 }; within = record { 0 = l } } ⌝ }
+{
     Requestor {
         rate: n,
         burst: b,
@@ -21,7 +28,9 @@ pub fn row(n: u64, b: u64, l: u64) -> Requestor {
 }
 
 // A row with this many transfers in its need.
-pub fn needing(j: u64, r: Requestor) -> Requestor {
+pub fn needing(j: u64, r: Requestor) -> Requestor
+    ensures { λ x. ⌜ x ≡ record { rate = r .rate; burst = r .burst; need = record { 0 = j }; within = r .within } ⌝ }
+{
     let within = r.within;
     Requestor {
         rate: r.rate,
@@ -32,7 +41,9 @@ pub fn needing(j: u64, r: Requestor) -> Requestor {
 }
 
 // A table of D and N whose rows are all 0.
-fn bare_table(d: u64, n: usize) -> Table {
+fn bare_table(d: u64, n: usize) -> Table
+    ensures { λ t. ⌜ given t ≡ tableOf maxPlaces d n [] ⌝ }
+{
     let none = no_requestor();
     Table {
         denominator: d,
@@ -41,13 +52,17 @@ fn bare_table(d: u64, n: usize) -> Table {
     }
 }
 
-pub fn one_place(d: u64, r: Requestor) -> Table {
+pub fn one_place(d: u64, r: Requestor) -> Table
+    ensures { λ t. ⌜ given t ≡ tableOf maxPlaces d 1 (r ∷ []) ⌝ }
+{
     let mut t = bare_table(d, 1);
     t.requestors[0] = r;
     t
 }
 
-pub fn two_places(d: u64, first: Requestor, second: Requestor) -> Table {
+pub fn two_places(d: u64, first: Requestor, second: Requestor) -> Table
+    ensures { λ t. ⌜ given t ≡ tableOf maxPlaces d 2 (first ∷ second ∷ []) ⌝ }
+{
     let mut t = bare_table(d, 2);
     t.requestors[0] = first;
     t.requestors[1] = second;
@@ -55,11 +70,15 @@ pub fn two_places(d: u64, first: Requestor, second: Requestor) -> Table {
 }
 
 // Table T of document 01.
-pub fn t() -> Table {
+pub fn t() -> Table
+    ensures { λ t. ⌜ given t ≡ tableOf maxPlaces 4 2 (record { rate = 1; burst = 8; need = record { 0 = 1 }; within = record { 0 = 4 } } ∷ record { rate = 1; burst = 4; need = record { 0 = 1 }; within = record { 0 = 7 } } ∷ []) ⌝ }
+{
     two_places(4, row(1, 8, 4), row(1, 4, 7))
 }
 
-pub fn account(credit: u64, backlog: u64) -> Account {
+pub fn account(credit: u64, backlog: u64) -> Account
+    ensures { λ a. ⌜ a ≡ record { credit = credit; backlog = record { 0 = backlog } } ⌝ }
+{
     Account {
         credit: credit,
         backlog: Transfers(backlog),

@@ -52,7 +52,7 @@ withNeed p j s = record {
 }
 
 -- what calls on it come to: what they come to on the state itself, and the need stays
-pub record Served (limit p j : ℕ) (s : State) : Type 0 where
+pub record SameService (limit p j : ℕ) (s : State) : Type 0 where
   pub passes-23 : sound limit (withNeed p j s) ≡ true
   pub answers : (calls : List Call) → heardFrom limit (withNeed p j s) calls ≡ heardFrom limit s calls
   pub states : (calls : List Call) → end (called limit) (withNeed p j s) calls ≡ withNeed p j (end (called limit) s calls)
@@ -63,4 +63,4 @@ pub record Served (limit p j : ℕ) (s : State) : Type 0 where
 
 -- any j within the limits of check 5
 abbrev pub Any-need-is-served : Type 0
-Any-need-is-served = (limit : ℕ) (s : State) (p j : ℕ) → Shaped limit s → sound limit s ≡ true → p < s .table .count → 1 ≤ j → j ≤ maxNeed → Served limit p j s
+Any-need-is-served = (limit : ℕ) (s : State) (p j : ℕ) → Shaped limit s → sound limit s ≡ true → p < s .table .count → 1 ≤ j → j ≤ maxNeed → SameService limit p j s

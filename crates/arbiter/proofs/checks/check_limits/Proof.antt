@@ -12,7 +12,7 @@ use Rattle.arbiter.proofs.checks.check_limits.Tie as tie
 
 -- N is held to the room
 within-room : (c : tie.After-count-bounds) → boundsOf (c .count-bounds .result) ≡ countBounds (roomOf (c .before .before .before .before .before .before .before .args .words .now))
-within-room c = cc (c .count-bounds .ensures, c .before .before .before .room-of .ensures)
+within-room c = c .count-bounds .ensures ∙ ap countBounds (c .before .before .before .room-of .ensures)
 
 denominator-requires : tie.Need-denominator-requires
 denominator-requires c κs = head-there _ maxPlaces (c .before .pre)
