@@ -46,7 +46,7 @@ module _ (room extra : ℕ) where
   same-calls s (c ∷ calls) k =
       let one = same-call room extra s (k .shaped) c in
       let rest = same-calls (called room s c .state) calls (next-kept s c k) in
-      (rw one (ap (λ heard. called room s c .answer ∷ heard) (rest .0)), rw one (rest .1), rest .2)
+      (rw one (ap (λ answered. called room s c .answer ∷ answered) (rest .0)), rw one (rest .1), rest .2)
 
 -- with room for `new` places, and not fewer than before
 module _ (old new : ℕ) (larger : old ≤ new) where
@@ -104,7 +104,7 @@ carried-mid-run old new larger s v before after ok =
     let shape = keeps (called old) (Shaped old) (call-shaped old) s before v in
     let goes-on = runs-on-alike old new (kept last) (kept-many old last shape) larger ok after .0 in
     answers-append (called old) s before after
-    ∙ ap (λ heard. answers (called old) s before ++ heard)
+    ∙ ap (λ answered. answers (called old) s before ++ answered)
     (ap (λ x. answers (called old) x after) (sym (as-state-kept old last shape)) ∙ sym goes-on)
 
 pub sound-is-carried : Sound-is-carried

@@ -21,7 +21,7 @@ use Rattle.table_bytes.specs.Writing.{writeTable}
 use Rattle.rule.specs.Calls.{Call, called}
 use Rattle.rule.specs.Log.{Outcome, run}
 use Rattle.asking.specs.Look as look
-use Rattle.guarantees.specs.Counts.{Accepted, stateAfter, heardFrom}
+use Rattle.guarantees.specs.Counts.{Accepted, stateAfter, answersFrom}
 
 -- what a run comes to with zeros put behind its state
 abbrev pub ran-longer : (extra : ℕ) → Outcome → Outcome
@@ -74,11 +74,11 @@ Carried-from-sound =
     → let r = carry old new (kept (end (called old) s before)) in
     (r .answer ≡ accepted) × (answers (called old) s (before ++ after) ≡ answers (called old) s before ++ answers (called new) (r .state) after)
 
--- An old unit's line from an accepted start: after any calls it is carried over, and what is heard in a stretch that begins before that and
+-- An old unit's line from an accepted start: after any calls it is carried over, and what is answered in a stretch that begins before that and
 -- ends after it is what a stretch without it hears. So Demand3 says of it what it says of that one.
 abbrev pub Carried-from-start : Type 0
 Carried-from-start =
     (old new : ℕ) → old ≤ new → (t : Table) (first : ℕ) → Accepted old t first → (before inside more : List Call)
     → let s = stateAfter old t first before in
     let r = carry old new (kept (stateAfter old t first (before ++ inside))) in
-    (r .answer ≡ accepted) × (heardFrom old s (inside ++ more) ≡ heardFrom old s inside ++ heardFrom new (r .state) more)
+    (r .answer ≡ accepted) × (answersFrom old s (inside ++ more) ≡ answersFrom old s inside ++ answersFrom new (r .state) more)

@@ -15,7 +15,7 @@ use Rattle.terms.specs.Start.{opening, noState, startVerdict, start}
 use Rattle.terms.specs.Chain.{named, follows, chainTo, chainOf, chainFigure, figured, nameVerdict, circleVerdict, followingVerdict, chainVerdict, chain}
 use Rattle.rule.specs.Rule.{eligible, later, firstEligible, served, passed, after}
 use Rattle.rule.specs.Calls.{post, slot, grantOf, advanced, withCount, withPost, done, ruleVerdict, called}
-use Rattle.guarantees.specs.Counts.{slotsIn, Accepted, stateAfter, heardFrom}
+use Rattle.guarantees.specs.Counts.{slotsIn, Accepted, stateAfter, answersFrom}
 use Rattle.guarantees.specs.Chains.{isGrantTo, reachedPast, firstGrant, PostInTurn}
 use Rattle.guarantees.proofs.Chains.{chain-from-start}
 use Rattle.cases.specs.ChainRows.{tableDisplay, displayNames, displayCalls, DisplayRun}
@@ -28,7 +28,7 @@ figure : chain maxPlaces (stateAfter maxPlaces tableDisplay 0 []) 3 displayNames
 unfolding total every upTo writtenOver Runs.end Runs.answers gate then tableOf heldTo fieldsVerdict eachPlace tailVerdict rateSumVerdict needFits needFitsVerdict offeredRowVerdict verdictBy roundedUp finish finishVerdict admissionVerdict accountsHold sound placeVerdict opening noState startVerdict start named follows chainTo chainFigure nameVerdict circleVerdict followingVerdict chainVerdict chain eligible later firstEligible served passed after grantOf advanced withCount withPost done ruleVerdict called isGrantTo reachedPast firstGrant tableDisplay displayCalls
 figure = refl
 
-slots : slotsIn (heardFrom maxPlaces (stateAfter maxPlaces tableDisplay 0 []) (displayCalls 31)) ≡ 34
+slots : slotsIn (answersFrom maxPlaces (stateAfter maxPlaces tableDisplay 0 []) (displayCalls 31)) ≡ 34
 unfolding total every upTo writtenOver Runs.end Runs.answers gate then tableOf heldTo fieldsVerdict eachPlace tailVerdict rateSumVerdict needFits needFitsVerdict offeredRowVerdict verdictBy roundedUp finish finishVerdict admissionVerdict accountsHold sound placeVerdict opening noState startVerdict start named follows chainTo chainFigure nameVerdict circleVerdict followingVerdict chainVerdict chain eligible later firstEligible served passed after grantOf advanced withCount withPost done ruleVerdict called isGrantTo reachedPast firstGrant tableDisplay displayCalls
 slots = refl
 

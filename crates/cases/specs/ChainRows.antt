@@ -14,7 +14,7 @@ use Rattle.terms.specs.Answers.{accepted, granted, refused}
 use Rattle.terms.specs.Chain.{nobody}
 use Rattle.terms.specs.Chain as chains
 use Rattle.rule.specs.Calls.{Call, post, slot}
-use Rattle.guarantees.specs.Counts.{slotsIn, Accepted, heardFrom}
+use Rattle.guarantees.specs.Counts.{slotsIn, Accepted, answersFrom}
 use Rattle.guarantees.specs.Chains.{PostInTurn, GrantedInTurn}
 use Rattle.cases.specs.Rows.{row, account, table, stateOf, Row, calling, askingFigures, chaining, after, standing, told, told-figures, told-chain}
 use Rattle.cases.specs.BenchRows.{tableTShort}
@@ -138,5 +138,5 @@ pub record DisplayRun : Type 0 where
   pub started : Accepted maxPlaces tableDisplay 0
   pub figure : chains.chain maxPlaces (after tableDisplay 0 []) 3 displayNames ≡ chains.figured 34
   pub in-turn : PostInTurn maxPlaces (chains.chainOf tableDisplay displayNames 3) (after tableDisplay 0 []) (displayCalls 31)
-  pub slots : slotsIn (heardFrom maxPlaces (after tableDisplay 0 []) (displayCalls 31)) ≡ 34
+  pub slots : slotsIn (answersFrom maxPlaces (after tableDisplay 0 []) (displayCalls 31)) ≡ 34
   pub in-time : GrantedInTurn maxPlaces (chains.chainOf tableDisplay displayNames 3) (after tableDisplay 0 []) (displayCalls 31) 34

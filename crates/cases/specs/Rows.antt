@@ -27,7 +27,7 @@ use Rattle.table_bytes.specs.Reading.{Read, numberRead, readTable}
 use Rattle.table_bytes.specs.Writing.{WriteAnswer, writeTable}
 use Rattle.rule.specs.Calls.{Call, post, slot, called}
 use Rattle.rule.specs.Log.{runVerdict, run}
-use Rattle.guarantees.specs.Counts.{slotsIn, grantsTo, stateAfter, heardFrom}
+use Rattle.guarantees.specs.Counts.{slotsIn, grantsTo, stateAfter, answersFrom}
 use Rattle.guarantees.specs.FinishFigure.{formerFinish, formerVerdict}
 use Rattle.ordering.specs.Order.{order}
 use Rattle.ordered_bytes.specs.OrderBytes.{orderBytes}
@@ -199,7 +199,7 @@ reply (besideOld o slots) =
 reply (starting t first) = let begun = start maxPlaces t first in started-as (begun .answer) (begun .state)
 reply (calling t first calls) =
     let begun = start maxPlaces t first in
-    told (begun .answer) (heardFrom maxPlaces (begun .state) calls) (standsAt (t .count) (stateAfter maxPlaces t first calls))
+    told (begun .answer) (answersFrom maxPlaces (begun .state) calls) (standsAt (t .count) (stateAfter maxPlaces t first calls))
 reply (asking s c) = answered (called maxPlaces s c .answer) (standsAt (s .table .count) (called maxPlaces s c .state))
 reply (replaying t first calls old) =
     let r = replay maxPlaces t first calls old in
@@ -222,9 +222,9 @@ reply (ordering t) = let o = order maxPlaces t in ordered-as (o .answer) (o .tab
 reply (orderingBytes given old) = let w = orderBytes maxPlaces given old in written-as (w .answer) (w .buffer)
 reply (floor t before inside p) =
     let s = stateAfter maxPlaces t 0 before in
-    let heard = heardFrom maxPlaces s inside in
+    let replies = answersFrom maxPlaces s inside in
     floorSides (credit (accountAt p (s .accounts))) (waitsThroughout p s inside) (t .denominator) (requestorAt p (requestorsOf t) .rate)
-    (rateLeft (t .denominator) p (requestorsOf t)) (burstsAbove p (requestorsOf t)) (slotsIn heard) (grantsTo p heard)
+    (rateLeft (t .denominator) p (requestorsOf t)) (burstsAbove p (requestorsOf t)) (slotsIn replies) (grantsTo p replies)
 reply (listingOf input) = bytes (listing maxPlaces input)
 
 -- a question, and the reply that is written for it: in BenchRows what document 01 says, elsewhere what was worked out by hand

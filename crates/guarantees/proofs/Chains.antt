@@ -29,7 +29,7 @@ use Rattle.terms.proofs.Chain.{Below, chain-below, chain-open}
 use Rattle.rule.specs.Grants.{toPlace}
 use Rattle.rule.specs.Calls.{Call, post, withPost, done, ruleVerdict, ruled, called}
 use Rattle.rule.proofs.Kept.{places-count, accounts-cover}
-use Rattle.guarantees.specs.Counts.{inSlot, slotsIn, grantsTo, firstSlots, stateAfter, heardFrom}
+use Rattle.guarantees.specs.Counts.{inSlot, slotsIn, grantsTo, firstSlots, stateAfter, answersFrom}
 use Rattle.guarantees.specs.Need.{Pending}
 use Rattle.guarantees.specs.Chains.{PostedNext, postedState, Reached, isGrantTo, reachedPast, firstGrant, PostInTurn, uponGrant, GrantedInTurn, Chain-from-sound, Chain-from-start, Chain-figure-at-most}
 use Rattle.guarantees.proofs.Grants.{slotIn, grantTo}
@@ -78,7 +78,7 @@ module _ (limit : ℕ) (T : Table) where
     at : Reached
     found : firstGrant limit p s calls ≡ some at
     within : at .slots ≤ m
-    left : slotsIn (heardFrom limit s calls) ≡ at .slots + slotsIn (heardFrom limit (at .state) (at .onward))
+    left : slotsIn (answersFrom limit s calls) ≡ at .slots + slotsIn (answersFrom limit (at .state) (at .onward))
     stands : Stands (at .state)
 
   found-here : (p m : ℕ) (s : State) (c : Call) (calls : List Call) → Stands s → isGrantTo p (called limit s c .answer) ≡ true → Found p (suc m) s (c ∷ calls)
@@ -102,7 +102,7 @@ module _ (limit : ℕ) (T : Table) where
     stands = f .stands;
   }
 
-  find : (p m : ℕ) (s : State) (calls : List Call) → Stands s → 1 ≤ grantsTo p (firstSlots (heardFrom limit s calls) m) → Found p m s calls
+  find : (p m : ℕ) (s : State) (calls : List Call) → Stands s → 1 ≤ grantsTo p (firstSlots (answersFrom limit s calls) m) → Found p m s calls
   unfolding answers firstSlots total
   find p m s [] k h = absurd (omega arith)
   find p zero s (c ∷ calls) k h = absurd (omega arith)
@@ -133,7 +133,7 @@ module _ (limit : ℕ) (T : Table) where
 
     -- a post is no slot
     post-slots : (behind : List Call)
-        → slotsIn (heardFrom limit s (post p 1 ∷ behind)) ≡ slotsIn (heardFrom limit (called limit s (post p 1) .state) behind)
+        → slotsIn (answersFrom limit s (post p 1 ∷ behind)) ≡ slotsIn (answersFrom limit (called limit s (post p 1) .state) behind)
     unfolding answers total
     post-slots behind = rw post-done (omega arith)
 
@@ -157,7 +157,7 @@ module _ (limit : ℕ) (T : Table) where
   ]
 
   in-turn : (links : List ℕ) → Below (T .count) links → (s : State) (calls : List Call) (slots : ℕ) → Stands s → PostInTurn limit links s calls
-      → total figureOf links ≤ slots → total figureOf links ≤ slotsIn (heardFrom limit s calls) → GrantedInTurn limit links s calls slots
+      → total figureOf links ≤ slots → total figureOf links ≤ slotsIn (answersFrom limit s calls) → GrantedInTurn limit links s calls slots
   unfolding total
   in-turn [] b s calls slots k turn enough follow = tt
   in-turn (p ∷ links) (place, b) s calls slots k turn enough follow = (
@@ -180,12 +180,12 @@ module _ (limit : ℕ) (T : Table) where
       k₂ : Stands (postedState x)
       k₂ = stands-next (end (called limit) s (x .ahead)) (post p 1) k₁
 
-      counted : slotsIn (heardFrom limit s calls) ≡ slotsIn (heardFrom limit (postedState x) (x .behind))
+      counted : slotsIn (answersFrom limit s calls) ≡ slotsIn (answersFrom limit (postedState x) (x .behind))
       counted =
-          ap (λ c. slotsIn (heardFrom limit s c)) (x .stands)
+          ap (λ c. slotsIn (answersFrom limit s c)) (x .stands)
           ∙ ap slotsIn (answers-append (called limit) s (x .ahead) (post p 1 ∷ x .behind))
-          ∙ total-append slotIn (heardFrom limit s (x .ahead)) (heardFrom limit (end (called limit) s (x .ahead)) (post p 1 ∷ x .behind))
-          ∙ ap (λ n. n + slotsIn (heardFrom limit (end (called limit) s (x .ahead)) (post p 1 ∷ x .behind))) (x .no-slot)
+          ∙ total-append slotIn (answersFrom limit s (x .ahead)) (answersFrom limit (end (called limit) s (x .ahead)) (post p 1 ∷ x .behind))
+          ∙ ap (λ n. n + slotsIn (answersFrom limit (end (called limit) s (x .ahead)) (post p 1 ∷ x .behind))) (x .no-slot)
           ∙ zero-add _
           ∙ post-slots (end (called limit) s (x .ahead)) k₁ p place (x .no-backlog) (x .behind)
 
@@ -199,7 +199,7 @@ module _ (limit : ℕ) (T : Table) where
 
 -- the figure was told on a state with table T, and the calls begin on any sound state with it
 chain-from : (limit : ℕ) (T : Table) (s : State) → Stands limit T s → (p : ℕ) → p < T .count → (names : List ℕ) → namesVerdict T names ≡ faultless
-    → (inside : List Call) → PostInTurn limit (chainOf T names p) s inside → chainFigure T (chainOf T names p) ≤ slotsIn (heardFrom limit s inside)
+    → (inside : List Call) → PostInTurn limit (chainOf T names p) s inside → chainFigure T (chainOf T names p) ≤ slotsIn (answersFrom limit s inside)
     → GrantedInTurn limit (chainOf T names p) s inside (chainFigure T (chainOf T names p))
 unfolding chainFigure
 chain-from limit T s (on, v) p place names ok inside turn follow =

@@ -11,7 +11,7 @@ use Rattle.terms.specs.Table.{Table, requestorsOf}
 use Rattle.terms.specs.State.{State, credit, accountAt}
 use Rattle.terms.proofs.Sound.{Sound}
 use Rattle.rule.specs.Calls.{Call, ruled, called}
-use Rattle.guarantees.specs.Counts.{slotsIn, grantsTo, Waits, Accepted, stateAfter, heardFrom}
+use Rattle.guarantees.specs.Counts.{slotsIn, grantsTo, Waits, Accepted, stateAfter, answersFrom}
 use Rattle.guarantees.specs.Demand3.{Floor, ruledAfter, Demand-3}
 use Rattle.guarantees.specs.SharperFloor.{Sharp}
 use Rattle.guarantees.proofs.Sound.{end-ruled, answers-ruled}
@@ -37,8 +37,8 @@ floor-from limit T s on v inside p place waits enters =
 
 -- from an accepted start
 module _ (limit : ℕ) (t : Table) (first : ℕ) (a : Accepted limit t first) (before inside : List Call) where
-  heard-ruled : heardFrom limit (stateAfter limit t first before) inside ≡ answers ruled (ruledAfter t first before) inside
-  heard-ruled = ap (λ s. answers (called limit) s inside) (entered-ruled limit t first a before) ∙ answers-ruled limit _ inside (entered-sound limit t first a before)
+  inside-ruled : answersFrom limit (stateAfter limit t first before) inside ≡ answers ruled (ruledAfter t first before) inside
+  inside-ruled = ap (λ s. answers (called limit) s inside) (entered-ruled limit t first a before) ∙ answers-ruled limit _ inside (entered-sound limit t first a before)
 
   left-ruled : end (called limit) (stateAfter limit t first before) inside ≡ end ruled (ruledAfter t first before) inside
   left-ruled = ap (λ s. end (called limit) s inside) (entered-ruled limit t first a before) ∙ end-ruled limit _ inside (entered-sound limit t first a before)
@@ -51,8 +51,8 @@ demand-3 limit t first a before inside =
     record {
       entered-by-rule = entered-ruled limit t first a before;
       before-by-rule = answered-ruled limit t first a before;
-      inside-by-rule = heard-ruled limit t first a before inside;
+      inside-by-rule = inside-ruled limit t first a before inside;
       left-by-rule = left-ruled limit t first a before inside;
-      ceiling = λ k least most. rw (heard-ruled limit t first a before inside) (ceiling-from limit t s on v inside k (omega arith));
-      floor = λ p place waits enters. rw (heard-ruled limit t first a before inside) (floor-from limit t s on v inside p (omega arith) waits (omega arith));
+      ceiling = λ k least most. rw (inside-ruled limit t first a before inside) (ceiling-from limit t s on v inside k (omega arith));
+      floor = λ p place waits enters. rw (inside-ruled limit t first a before inside) (floor-from limit t s on v inside p (omega arith) waits (omega arith));
     }

@@ -87,10 +87,10 @@ byte-to-place p (granted stamp q) h = refl
 byte-to-place p (idle stamp) h = rw (ne-eqb 255 p (λ e. omega arith))
 byte-to-place p (refused r) h = rw (ne-eqb 255 p (λ e. omega arith))
 
-bytes-to-place : (p : ℕ) (heard : List Answer) → p < 255 → bytesEqual p (map answerByte heard) ≡ grantsTo p heard
+bytes-to-place : (p : ℕ) (answered : List Answer) → p < 255 → bytesEqual p (map answerByte answered) ≡ grantsTo p answered
 unfolding total
 bytes-to-place p [] h = refl
-bytes-to-place p (a ∷ heard) h = ap₂ (λ x y. x + y) (byte-to-place p a h) (bytes-to-place p heard h)
+bytes-to-place p (a ∷ answered) h = ap₂ (λ x y. x + y) (byte-to-place p a h) (bytes-to-place p answered h)
 
 -- one place more
 to-first-next : (k : ℕ) (g : Grant) → toFirst (suc k) g ≡ toFirst k g + toPlace k g
@@ -114,43 +114,43 @@ answer-next k (granted stamp p) = to-first-next k (Place p)
 answer-next k (idle stamp) = to-first-next k Nobody
 answer-next k (refused r) = refl
 
-grants-next : (k : ℕ) (heard : List Answer) → grantsToFirst (suc k) heard ≡ grantsToFirst k heard + grantsTo k heard
+grants-next : (k : ℕ) (answered : List Answer) → grantsToFirst (suc k) answered ≡ grantsToFirst k answered + grantsTo k answered
 unfolding total
 grants-next k [] = refl
-grants-next k (a ∷ heard) = omega (arith, answer-next k a, grants-next k heard)
+grants-next k (a ∷ answered) = omega (arith, answer-next k a, grants-next k answered)
 
-grants-none : (heard : List Answer) → grantsToFirst 0 heard ≡ 0
+grants-none : (answered : List Answer) → grantsToFirst 0 answered ≡ 0
 unfolding total
 grants-none [] = refl
-grants-none (accepted ∷ heard) = omega (arith, grants-none heard)
-grants-none (granted stamp p ∷ heard) = omega (arith, to-first-zero (Place p), grants-none heard)
-grants-none (idle stamp ∷ heard) = omega (arith, to-first-zero Nobody, grants-none heard)
-grants-none (refused r ∷ heard) = omega (arith, grants-none heard)
+grants-none (accepted ∷ answered) = omega (arith, grants-none answered)
+grants-none (granted stamp p ∷ answered) = omega (arith, to-first-zero (Place p), grants-none answered)
+grants-none (idle stamp ∷ answered) = omega (arith, to-first-zero Nobody, grants-none answered)
+grants-none (refused r ∷ answered) = omega (arith, grants-none answered)
 
 -- ---- leads by grants
 
 -- the log of some answers
-module _ (t : Table) (limit : ℕ) (few : t .count ≤ limit) (small : limit ≤ 255) (heard : List Answer) (log : List ℕ) (L : ℕ)
-    (bytes : log ≡ map answerByte heard) (long : length log ≡ L) where
-  lead-by-grants : (p : ℕ) → p < t .count → leadIn t p log ≡ pos (t .denominator * grantsTo p heard) -ℤ pos (requestorAt p (t .requestors) .rate * L)
+module _ (t : Table) (limit : ℕ) (few : t .count ≤ limit) (small : limit ≤ 255) (answered : List Answer) (log : List ℕ) (L : ℕ)
+    (bytes : log ≡ map answerByte answered) (long : length log ≡ L) where
+  lead-by-grants : (p : ℕ) → p < t .count → leadIn t p log ≡ pos (t .denominator * grantsTo p answered) -ℤ pos (requestorAt p (t .requestors) .rate * L)
   unfolding leadOf
   lead-by-grants p h =
-      ap₂ (λ g l. pos (t .denominator * g) -ℤ pos (requestorAt p (t .requestors) .rate * l)) (ap (bytesEqual p) bytes ∙ bytes-to-place p heard (omega arith)) long
+      ap₂ (λ g l. pos (t .denominator * g) -ℤ pos (requestorAt p (t .requestors) .rate * l)) (ap (bytesEqual p) bytes ∙ bytes-to-place p answered (omega arith)) long
 
-  summed-by-grants : (k : ℕ) → k ≤ t .count → summedLeads t k log ≡ pos (t .denominator * grantsToFirst k heard) -ℤ pos (total rate (take k (requestorsOf t)) * L)
+  summed-by-grants : (k : ℕ) → k ≤ t .count → summedLeads t k log ≡ pos (t .denominator * grantsToFirst k answered) -ℤ pos (total rate (take k (requestorsOf t)) * L)
   unfolding summedLeads total
   summed-by-grants zero h =
-      sym (ap₂ (λ a b. pos a -ℤ pos b) (ap (λ g. t .denominator * g) (grants-none heard) ∙ mul-zero (t .denominator)) (zero-mul L))
+      sym (ap₂ (λ a b. pos a -ℤ pos b) (ap (λ g. t .denominator * g) (grants-none answered) ∙ mul-zero (t .denominator)) (zero-mul L))
   summed-by-grants (suc k) h =
       let D = t .denominator in
       let rs = requestorsOf t in
       let n = requestorAt k (t .requestors) .rate in
       let row : getD rs k noRequestor ≡ getD (t .requestors) k noRequestor = getD-take (t .count) (t .requestors) k noRequestor h in
       let rates : total rate (take (suc k) rs) ≡ total rate (take k rs) + n = total-take-suc rate noRequestor refl k rs ∙ ap (λ r. total rate (take k rs) + rate r) row in
-      let grants : D * grantsToFirst k heard + D * grantsTo k heard ≡ D * grantsToFirst (suc k) heard = rw (grants-next k heard) (omega arith) in
+      let grants : D * grantsToFirst k answered + D * grantsTo k answered ≡ D * grantsToFirst (suc k) answered = rw (grants-next k answered) (omega arith) in
       let spent : total rate (take k rs) * L + n * L ≡ total rate (take (suc k) rs) * L = rw rates (omega arith) in
       ap₂ (λ y z. y +ℤ z) (summed-by-grants k (omega arith)) (lead-by-grants k h)
-      ∙ sub-add (D * grantsToFirst k heard) (total rate (take k rs) * L) (D * grantsTo k heard) (n * L)
+      ∙ sub-add (D * grantsToFirst k answered) (total rate (take k rs) * L) (D * grantsTo k answered) (n * L)
       ∙ ap₂ (λ a b. pos a -ℤ pos b) grants spent
 
 pub leads-of-a-run : Leads-of-a-run
@@ -158,25 +158,25 @@ leads-of-a-run limit s old small shape e =
     let p = passed limit s old e in
     let v = sound-open limit s shape (p .sound-is) in
     let inside = slots (length old) in
-    let heard = answers ruled s inside in
+    let answered = answers ruled s inside in
     let r = run-is-slots limit s old shape e in
     let bytes = r .log ∙ ap (map answerByte) (answers-ruled limit s inside v) in
     let long : length (run limit s old .log) ≡ length old = ap length (p .log) ∙ length-log (length old) s in
-    let all : slotsIn heard ≡ length old = ap slotsIn (sym (answers-ruled limit s inside v)) ∙ r .all-accepted in
+    let all : slotsIn answered ≡ length old = ap slotsIn (sym (answers-ruled limit s inside v)) ∙ r .all-accepted in
     let few = fair-table limit s v .count-most in
     let t = s .table in
     record {
       summed = λ k h.
           let ceiling = rw all at (ceiling-from limit t s refl v inside k h) in
-          rw (summed-by-grants t limit few small heard (run limit s old .log) (length old) bytes long k h)
-          (sub-most (t .denominator * grantsToFirst k heard) (total rate (take k (requestorsOf t)) * length old) (total burst (take k (requestorsOf t))) (omega (arith, ceiling)));
+          rw (summed-by-grants t limit few small answered (run limit s old .log) (length old) bytes long k h)
+          (sub-most (t .denominator * grantsToFirst k answered) (total rate (take k (requestorsOf t)) * length old) (total burst (take k (requestorsOf t))) (omega (arith, ceiling)));
       waiting = λ q place waits enters.
           let floor = rw all at (floor-from limit t s refl v inside q place waits enters) in
           let R = rateLeft (t .denominator) q (requestorsOf t) in
           let n = requestorAt q (t .requestors) .rate in
           let B = burstsAbove q (requestorsOf t) in
           let row : requestorAt q (requestorsOf t) .rate ≡ n = ap rate (getD-take (t .count) (t .requestors) q noRequestor place) in
-          let kept = subst (λ x. x * R * length old ≤ R * t .denominator * grantsTo q heard + x * B) row floor in
-          rw (lead-by-grants t limit few small heard (run limit s old .log) (length old) bytes long q place, times-sub R (t .denominator * grantsTo q heard) (n * length old))
-          (neg-most (R * (t .denominator * grantsTo q heard)) (R * (n * length old)) (n * B) (omega (arith, kept)));
+          let kept = subst (λ x. x * R * length old ≤ R * t .denominator * grantsTo q answered + x * B) row floor in
+          rw (lead-by-grants t limit few small answered (run limit s old .log) (length old) bytes long q place, times-sub R (t .denominator * grantsTo q answered) (n * length old))
+          (neg-most (R * (t .denominator * grantsTo q answered)) (R * (n * length old)) (n * B) (omega (arith, kept)));
     }

@@ -18,7 +18,7 @@ use Rattle.terms.proofs.Checks.{fair}
 use Rattle.terms.proofs.Figures.{finish-covers}
 use Rattle.terms.proofs.Sound.{Sound, places-length, row-at, sound-fair, start-admitted, sound-open}
 use Rattle.rule.specs.Calls.{Call, ruled}
-use Rattle.guarantees.specs.Counts.{inSlot, slotsIn, grantsTo, firstSlots, Waits, heardFrom}
+use Rattle.guarantees.specs.Counts.{inSlot, slotsIn, grantsTo, firstSlots, Waits, answersFrom}
 use Rattle.guarantees.specs.SharperFloor.{Sharp}
 use Rattle.guarantees.specs.Need.{Pending, GrantedWithin, Need-from-sound, Need-from-start, Own-need}
 use Rattle.guarantees.proofs.Grants.{grantTo, in-any-slot}
@@ -37,16 +37,16 @@ first-calls-answer : (s : State) (calls : List Call) (m : ℕ) → answers ruled
 unfolding firstCalls answers firstSlots
 first-calls-answer s [] m = refl
 first-calls-answer s (c ∷ calls) zero = refl
-first-calls-answer s (c ∷ calls) (suc m) = ap (λ heard. ruled s c .answer ∷ heard) (first-calls-answer (ruled s c .state) calls _)
+first-calls-answer s (c ∷ calls) (suc m) = ap (λ answered. ruled s c .answer ∷ answered) (first-calls-answer (ruled s c .state) calls _)
 
-first-slots-count : (heard : List Answer) (m : ℕ) → m ≤ slotsIn heard → slotsIn (firstSlots heard m) ≡ m
+first-slots-count : (answered : List Answer) (m : ℕ) → m ≤ slotsIn answered → slotsIn (firstSlots answered m) ≡ m
 unfolding firstSlots total
 first-slots-count [] m h = omega arith
-first-slots-count (a ∷ heard) zero h = refl
-first-slots-count (accepted ∷ heard) (suc m) h = omega (arith, first-slots-count heard (suc m) (omega arith))
-first-slots-count (granted stamp p ∷ heard) (suc m) h = omega (arith, first-slots-count heard m (omega arith))
-first-slots-count (idle stamp ∷ heard) (suc m) h = omega (arith, first-slots-count heard m (omega arith))
-first-slots-count (refused r ∷ heard) (suc m) h = omega (arith, first-slots-count heard (suc m) (omega arith))
+first-slots-count (a ∷ answered) zero h = refl
+first-slots-count (accepted ∷ answered) (suc m) h = omega (arith, first-slots-count answered (suc m) (omega arith))
+first-slots-count (granted stamp p ∷ answered) (suc m) h = omega (arith, first-slots-count answered m (omega arith))
+first-slots-count (idle stamp ∷ answered) (suc m) h = omega (arith, first-slots-count answered m (omega arith))
+first-slots-count (refused r ∷ answered) (suc m) h = omega (arith, first-slots-count answered (suc m) (omega arith))
 
 -- j transfers wait: either all are granted, or the place waits throughout
 waits-or-granted : (limit p j : ℕ) (s : State) (calls : List Call) → Sound limit s → j ≤ backlog (accountAt p (s .accounts))
@@ -91,7 +91,7 @@ sharp-enough d n R B c L g j hd hn rated sharp figure = elim (decLe j g) [
 
 -- T is the table that stands where the stretch begins; any number of slots from the finish figure on will do
 pub need-from : (limit : ℕ) (T : Table) (s : State) → s .table ≡ T → Sound limit s → (inside : List Call) (p j slots : ℕ)
-    → Pending s p j → finish (T .denominator) (requestorsOf T) p j ≤ slots → GrantedWithin slots (heardFrom limit s inside) p j
+    → Pending s p j → finish (T .denominator) (requestorsOf T) p j ≤ slots → GrantedWithin slots (answersFrom limit s inside) p j
 unfolding finish
 need-from limit T s on v inside p j slots pending figure reached =
     rw (answers-ruled limit s inside v, ← first-calls-answer s inside slots) (omega (arith, go (waits-or-granted limit p j s calls v (omega arith))))

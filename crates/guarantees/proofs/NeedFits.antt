@@ -182,8 +182,8 @@ module _ (p j : ℕ) where
   unfolding answers end
   same-calls s [] = (refl, refl)
   same-calls s (c ∷ calls) =
-      let (heard, last) = same-calls (ruled s c .state) calls in
-      (rw (same-step s c) (ap (λ l. ruled s c .answer ∷ l) heard), rw (same-step s c) last)
+      let (answered, last) = same-calls (ruled s c .state) calls in
+      (rw (same-step s c) (ap (λ l. ruled s c .answer ∷ l) answered), rw (same-step s c) last)
 
   same-slots : (k : ℕ) (s : State) → (slotsState k (with s) ≡ with (slotsState k s)) × (slotsLog k (with s) ≡ slotsLog k s)
   unfolding slotsState slotsLog

@@ -88,11 +88,11 @@ run-is-slots limit s old shape e =
     let p = passed limit s old e in
     let v = sound-open limit s shape (p .sound-is) in
     let r = slots-ruled (length old) s (p .below) in
-    let heard = answers-ruled limit s (slots (length old)) v in
+    let answered = answers-ruled limit s (slots (length old)) v in
     record {
-      log = p .log ∙ sym (ap (map answerByte) heard ∙ r .log);
+      log = p .log ∙ sym (ap (map answerByte) answered ∙ r .log);
       state = p .state ∙ sym (end-ruled limit s (slots (length old)) v ∙ r .state);
-      all-accepted = ap slotsIn heard ∙ r .count;
+      all-accepted = ap slotsIn answered ∙ r .count;
     }
 
 pub run-from-start : Run-from-start

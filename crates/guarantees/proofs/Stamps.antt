@@ -22,24 +22,24 @@ use Rattle.guarantees.proofs.Start.{answered-ruled}
 
 -- the stamps in the answers are the numbers from n on
 abbrev pub StampedFrom : ℕ → List Answer → Type 0
-StampedFrom n heard = stampsIn heard ≡ countedFrom n (slotsIn heard)
+StampedFrom n answered = stampsIn answered ≡ countedFrom n (slotsIn answered)
 
 -- ---- along a list of calls
 
 -- an accepted slot in front takes the number before
-slot-in-front : (n : ℕ) (g : Grant) (heard : List Answer) → StampedFrom (n + 1) heard → StampedFrom n (slotAnswer n g ∷ heard)
+slot-in-front : (n : ℕ) (g : Grant) (answered : List Answer) → StampedFrom (n + 1) answered → StampedFrom n (slotAnswer n g ∷ answered)
 unfolding stampsIn countedFrom total
-slot-in-front n Nobody heard h = rw one-add (ap (λ l. n ∷ l) h)
-slot-in-front n (Place p) heard h = rw one-add (ap (λ l. n ∷ l) h)
+slot-in-front n Nobody answered h = rw one-add (ap (λ l. n ∷ l) h)
+slot-in-front n (Place p) answered h = rw one-add (ap (λ l. n ∷ l) h)
 
 -- any other call in front takes none
-call-in-front : (s : State) (c : Call) (heard : List Answer)
-    → StampedFrom (ruled s c .state .slot .0) heard → StampedFrom (s .slot .0) (ruled s c .answer ∷ heard)
+call-in-front : (s : State) (c : Call) (answered : List Answer)
+    → StampedFrom (ruled s c .state .slot .0) answered → StampedFrom (s .slot .0) (ruled s c .answer ∷ answered)
 unfolding stampsIn total withPost advanced
 call-in-front s c = by-kind
-    (λ c u a. (heard : List Answer) → StampedFrom (u .slot .0) heard → StampedFrom (s .slot .0) (a ∷ heard)) s c
-    (λ r v heard h. rw zero-add h)
-    (λ p count v heard h. rw zero-add h)
+    (λ c u a. (answered : List Answer) → StampedFrom (u .slot .0) answered → StampedFrom (s .slot .0) (a ∷ answered)) s c
+    (λ r v answered h. rw zero-add h)
+    (λ p count v answered h. rw zero-add h)
     (λ v. slot-in-front (s .slot .0) (grantOf s))
 
 pub stamps-ruled : (s : State) (calls : List Call) → StampedFrom (s .slot .0) (Runs.answers ruled s calls)

@@ -18,7 +18,7 @@ use Rattle.terms.specs.Figures.{mostFinish}
 use Rattle.terms.specs.Chain.{chainOf, chain, figured}
 use Rattle.rule.specs.Grants as grants
 use Rattle.rule.specs.Calls.{Call, post, called}
-use Rattle.guarantees.specs.Counts.{inSlot, slotsIn, Accepted, stateAfter, heardFrom}
+use Rattle.guarantees.specs.Counts.{inSlot, slotsIn, Accepted, stateAfter, answersFrom}
 
 -- ---- a link's post
 
@@ -28,7 +28,7 @@ pub record PostedNext (limit : ℕ) (s : State) (calls : List Call) (p : ℕ) : 
   pub ahead : List Call
   pub behind : List Call
   pub stands : calls ≡ ahead ++ post p 1 ∷ behind
-  pub no-slot : slotsIn (heardFrom limit s ahead) ≡ 0
+  pub no-slot : slotsIn (answersFrom limit s ahead) ≡ 0
   pub no-backlog : backlog (accountAt p (Runs.end (called limit) s ahead .accounts)) ≡ 0
 
 -- the state that it leaves
@@ -71,7 +71,7 @@ uponGrant (some g) next = next g
 -- same is asked of the other links from there on.
 abbrev pub PostInTurn : ℕ → (links : List ℕ) → State → List Call → Type 0
 PostInTurn limit [] s calls = Unit {0}
-PostInTurn limit (p ∷ links) s calls = 0 < slotsIn (heardFrom limit s calls)
+PostInTurn limit (p ∷ links) s calls = 0 < slotsIn (answersFrom limit s calls)
     → (x : PostedNext limit s calls p)
     × uponGrant (firstGrant limit p (postedState x) (x .behind)) (λ g. PostInTurn limit links (g .state) (g .onward))
 
@@ -91,7 +91,7 @@ abbrev pub Chain-from-sound : Type 0
 Chain-from-sound = (limit : ℕ) (s : State) → Shaped limit s → sound limit s ≡ true
     → (asked : List Call) (p : ℕ) (names : List ℕ) (figure : ℕ) → chain limit (Runs.end (called limit) s asked) p names ≡ figured figure
     → (before inside : List Call) → PostInTurn limit (chainOf (s .table) names p) (Runs.end (called limit) s before) inside
-    → figure ≤ slotsIn (heardFrom limit (Runs.end (called limit) s before) inside)
+    → figure ≤ slotsIn (answersFrom limit (Runs.end (called limit) s before) inside)
     → GrantedInTurn limit (chainOf (s .table) names p) (Runs.end (called limit) s before) inside figure
 
 -- from an accepted start, after any calls; the figure may have been asked for at any time
@@ -99,7 +99,7 @@ abbrev pub Chain-from-start : Type 0
 Chain-from-start = (limit : ℕ) (t : Table) (first : ℕ) → Accepted limit t first
     → (asked : List Call) (p : ℕ) (names : List ℕ) (figure : ℕ) → chain limit (stateAfter limit t first asked) p names ≡ figured figure
     → (before inside : List Call) → PostInTurn limit (chainOf t names p) (stateAfter limit t first before) inside
-    → figure ≤ slotsIn (heardFrom limit (stateAfter limit t first before) inside)
+    → figure ≤ slotsIn (answersFrom limit (stateAfter limit t first before) inside)
     → GrantedInTurn limit (chainOf t names p) (stateAfter limit t first before) inside figure
 
 -- a chain has at most N links: its figure is at most N of the largest finish figures, which for every room up to the largest N fits 64 bits

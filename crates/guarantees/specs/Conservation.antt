@@ -8,7 +8,7 @@ use Rattle.terms.specs.Table.{Table}
 use Rattle.terms.specs.Answers.{Answer, accepted, granted, idle, refused}
 use Rattle.terms.specs.State.{backlog, accountAt}
 use Rattle.rule.specs.Calls.{Call, post, slot}
-use Rattle.guarantees.specs.Counts.{grantsTo, Accepted, startState, stateAfter, heardFrom}
+use Rattle.guarantees.specs.Counts.{grantsTo, Accepted, startState, stateAfter, answersFrom}
 
 -- the transfers that a call with this answer brought to place p
 unfoldable pub brought : ℕ → Call → Answer → ℕ
@@ -20,12 +20,12 @@ brought p (post i count) (refused r) = 0
 
 -- the transfers accepted in posts to place p, along a list of calls and their answers
 unfoldable pub broughtTo : ℕ → List Call → List Answer → ℕ
-broughtTo p [] heard = 0
+broughtTo p [] answered = 0
 broughtTo p (c ∷ cs) [] = 0
-broughtTo p (c ∷ cs) (a ∷ heard) = brought p c a + broughtTo p cs heard
+broughtTo p (c ∷ cs) (a ∷ answered) = brought p c a + broughtTo p cs answered
 
 abbrev pub Conservation : Type 0
 Conservation = (limit : ℕ) (t : Table) (first : ℕ) → Accepted limit t first → (calls : List Call) (p : ℕ)
-    → broughtTo p calls (heardFrom limit (startState limit t first) calls)
-    ≡ grantsTo p (heardFrom limit (startState limit t first) calls)
+    → broughtTo p calls (answersFrom limit (startState limit t first) calls)
+    ≡ grantsTo p (answersFrom limit (startState limit t first) calls)
     + backlog (accountAt p (stateAfter limit t first calls .accounts))

@@ -37,8 +37,8 @@ grantsToFirst k = total (inSlot 0 (toFirst k))
 -- the answers up to the m-th accepted slot
 unfoldable pub firstSlots : List Answer → ℕ → List Answer
 firstSlots [] m = []
-firstSlots (a ∷ heard) zero = []
-firstSlots (a ∷ heard) (suc m) = a ∷ firstSlots heard (inSlot (suc m) (λ g. m) a)
+firstSlots (a ∷ answered) zero = []
+firstSlots (a ∷ answered) (suc m) = a ∷ firstSlots answered (inSlot (suc m) (λ g. m) a)
 
 -- whether a place waits is asked directly before an accepted slot, and of no other call
 abbrev pub WaitsAt : ℕ → State → Answer → Type 0
@@ -61,5 +61,5 @@ startState limit t first = start limit t first .state
 abbrev pub stateAfter : ℕ → Table → ℕ → List Call → State
 stateAfter limit t first calls = Runs.end (called limit) (startState limit t first) calls
 
-abbrev pub heardFrom : ℕ → State → List Call → List Answer
-heardFrom limit s calls = Runs.answers (called limit) s calls
+abbrev pub answersFrom : ℕ → State → List Call → List Answer
+answersFrom limit s calls = Runs.answers (called limit) s calls

@@ -13,7 +13,7 @@ use Rattle.terms.specs.State.{State, credit, accountAt}
 use Rattle.terms.specs.Figures.{burstsAbove, rateLeft}
 use Rattle.terms.specs.Start.{opening}
 use Rattle.rule.specs.Calls.{Call, ruled, called}
-use Rattle.guarantees.specs.Counts.{slotsIn, grantsTo, grantsToFirst, Waits, Accepted, startState, stateAfter, heardFrom}
+use Rattle.guarantees.specs.Counts.{slotsIn, grantsTo, grantsToFirst, Waits, Accepted, startState, stateAfter, answersFrom}
 
 -- what the first k places get in L slots, D for each grant, is covered by their bursts and L times their rates
 abbrev pub Ceiling : ℕ → List Requestor → ℕ → ℕ → ℕ → Type 0
@@ -39,18 +39,18 @@ ruledAfter t first calls = Runs.end ruled (opening t first) calls
 pub record Demand3 (limit : ℕ) (t : Table) (first : ℕ) (before inside : List Call) : Type 0 where
   -- (i) states and answers are the rule's, where the stretch begins and along it
   pub entered-by-rule : stateAfter limit t first before ≡ ruledAfter t first before
-  pub before-by-rule : heardFrom limit (startState limit t first) before ≡ Runs.answers ruled (opening t first) before
-  pub inside-by-rule : heardFrom limit (stateAfter limit t first before) inside ≡ Runs.answers ruled (ruledAfter t first before) inside
+  pub before-by-rule : answersFrom limit (startState limit t first) before ≡ Runs.answers ruled (opening t first) before
+  pub inside-by-rule : answersFrom limit (stateAfter limit t first before) inside ≡ Runs.answers ruled (ruledAfter t first before) inside
   pub left-by-rule : Runs.end (called limit) (stateAfter limit t first before) inside ≡ Runs.end ruled (ruledAfter t first before) inside
   -- (ii) the ceiling
   pub ceiling : (k : ℕ) → 1 ≤ k → k ≤ t .count
       → Ceiling (t .denominator) (requestorsOf t) k
-      (slotsIn (heardFrom limit (stateAfter limit t first before) inside)) (grantsToFirst k (heardFrom limit (stateAfter limit t first before) inside))
+      (slotsIn (answersFrom limit (stateAfter limit t first before) inside)) (grantsToFirst k (answersFrom limit (stateAfter limit t first before) inside))
   -- (iii) the floor
   pub floor : (p : ℕ) → p < t .count → Waits p (ruledAfter t first before) inside
       → t .denominator ≤ credit (accountAt p (ruledAfter t first before .accounts))
       → Floor (t .denominator) (requestorsOf t) p
-      (slotsIn (heardFrom limit (stateAfter limit t first before) inside)) (grantsTo p (heardFrom limit (stateAfter limit t first before) inside))
+      (slotsIn (answersFrom limit (stateAfter limit t first before) inside)) (grantsTo p (answersFrom limit (stateAfter limit t first before) inside))
 
 abbrev pub Demand-3 : Type 0
 Demand-3 = (limit : ℕ) (t : Table) (first : ℕ) → Accepted limit t first → (before inside : List Call) → Demand3 limit t first before inside

@@ -17,7 +17,7 @@ use Rattle.terms.specs.Chain as chains
 use Rattle.lead_parts.specs.Lead.{leadAsked}
 use Rattle.rule.specs.Calls.{Call, called}
 use Rattle.rule.specs.Log.{run}
-use Rattle.guarantees.specs.Counts.{Accepted, heardFrom}
+use Rattle.guarantees.specs.Counts.{Accepted, answersFrom}
 
 -- ---- admission and test 23
 
@@ -54,7 +54,7 @@ withNeed p j s = record {
 -- what calls on it come to: what they come to on the state itself, and the need stays
 pub record SameService (limit p j : ℕ) (s : State) : Type 0 where
   pub passes-23 : sound limit (withNeed p j s) ≡ true
-  pub answers : (calls : List Call) → heardFrom limit (withNeed p j s) calls ≡ heardFrom limit s calls
+  pub answers : (calls : List Call) → answersFrom limit (withNeed p j s) calls ≡ answersFrom limit s calls
   pub states : (calls : List Call) → end (called limit) (withNeed p j s) calls ≡ withNeed p j (end (called limit) s calls)
   pub run : (log : List ℕ) → run limit (withNeed p j s) log ≡ record { state = withNeed p j (run limit s log .state); answer = run limit s log .answer; log = run limit s log .log }
   pub lead : (q : ℕ) (log : List ℕ) → leadAsked limit (withNeed p j s) q log ≡ leadAsked limit s q log

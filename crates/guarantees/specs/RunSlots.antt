@@ -10,7 +10,7 @@ use Rattle.terms.specs.State.{State, Shaped}
 use Rattle.terms.specs.Answers.{Answer, accepted}
 use Rattle.rule.specs.Calls.{Call, slot, called}
 use Rattle.rule.specs.Log.{grantByte, run}
-use Rattle.guarantees.specs.Counts.{inSlot, slotsIn, Accepted, stateAfter, heardFrom}
+use Rattle.guarantees.specs.Counts.{inSlot, slotsIn, Accepted, stateAfter, answersFrom}
 
 -- so many calls of slot
 abbrev pub slots : ℕ → List Call
@@ -22,9 +22,9 @@ abbrev pub answerByte : Answer → ℕ
 answerByte = inSlot 255 grantByte
 
 pub record AsSlots (limit : ℕ) (s : State) (old : List ℕ) : Type 0 where
-  pub log : run limit s old .log ≡ map answerByte (heardFrom limit s (slots (length old)))
+  pub log : run limit s old .log ≡ map answerByte (answersFrom limit s (slots (length old)))
   pub state : run limit s old .state ≡ Runs.end (called limit) s (slots (length old))
-  pub all-accepted : slotsIn (heardFrom limit s (slots (length old))) ≡ length old
+  pub all-accepted : slotsIn (answersFrom limit s (slots (length old))) ≡ length old
 
 abbrev pub Run-is-slots : Type 0
 Run-is-slots = (limit : ℕ) (s : State) (old : List ℕ) → Shaped limit s → run limit s old .answer ≡ accepted → AsSlots limit s old

@@ -10,7 +10,7 @@ use Rattle.terms.specs.State.{State, credit, accountAt, sound, Shaped}
 use Rattle.terms.specs.Table.{requestorsOf, requestorAt}
 use Rattle.terms.specs.Figures.{burstsAbove, rateLeft}
 use Rattle.rule.specs.Calls.{Call}
-use Rattle.guarantees.specs.Counts.{slotsIn, grantsTo, Waits, heardFrom}
+use Rattle.guarantees.specs.Counts.{slotsIn, grantsTo, Waits, answersFrom}
 
 -- Either D × g is at least R × L − B, or R × D × g is at least R × (c + n × L − D + 1) − n × B; each subtraction stands as an
 -- addition on the other side.
@@ -26,4 +26,4 @@ abbrev pub Sharper-floor : Type 0
 Sharper-floor = (limit : ℕ) (s : State) → Shaped limit s → sound limit s ≡ true → (inside : List Call) (p : ℕ)
     → p < s .table .count → Waits p s inside
     → Sharper (s .table .denominator) (requestorsOf (s .table)) p (credit (accountAt p (s .accounts)))
-    (slotsIn (heardFrom limit s inside)) (grantsTo p (heardFrom limit s inside))
+    (slotsIn (answersFrom limit s inside)) (grantsTo p (answersFrom limit s inside))

@@ -6,15 +6,15 @@ use lib.ListN.{length, getD}
 use Rattle.terms.specs.Table.{Table}
 use Rattle.terms.specs.Answers.{Answer, accepted, granted, idle, refused}
 use Rattle.rule.specs.Calls.{Call}
-use Rattle.guarantees.specs.Counts.{slotsIn, Accepted, startState, heardFrom}
+use Rattle.guarantees.specs.Counts.{slotsIn, Accepted, startState, answersFrom}
 
 -- the stamps in the answers, in order
 unfoldable pub stampsIn : List Answer → List ℕ
 stampsIn [] = []
-stampsIn (accepted ∷ heard) = stampsIn heard
-stampsIn (granted stamp p ∷ heard) = stamp ∷ stampsIn heard
-stampsIn (idle stamp ∷ heard) = stamp ∷ stampsIn heard
-stampsIn (refused r ∷ heard) = stampsIn heard
+stampsIn (accepted ∷ answered) = stampsIn answered
+stampsIn (granted stamp p ∷ answered) = stamp ∷ stampsIn answered
+stampsIn (idle stamp ∷ answered) = stamp ∷ stampsIn answered
+stampsIn (refused r ∷ answered) = stampsIn answered
 
 -- n numbers from first on
 unfoldable pub countedFrom : ℕ → ℕ → List ℕ
@@ -23,12 +23,12 @@ countedFrom first (suc n) = first ∷ countedFrom (first + 1) n
 
 abbrev pub Stamps : Type 0
 Stamps = (limit : ℕ) (t : Table) (first : ℕ) → Accepted limit t first → (calls : List Call)
-    → stampsIn (heardFrom limit (startState limit t first) calls)
-    ≡ countedFrom first (slotsIn (heardFrom limit (startState limit t first) calls))
+    → stampsIn (answersFrom limit (startState limit t first) calls)
+    ≡ countedFrom first (slotsIn (answersFrom limit (startState limit t first) calls))
 
 -- so no two accepted slots share a stamp
 abbrev pub Distinct-stamps : Type 0
 Distinct-stamps = (limit : ℕ) (t : Table) (first : ℕ) → Accepted limit t first → (calls : List Call) (i j : ℕ)
-    → i < j → j < length (stampsIn (heardFrom limit (startState limit t first) calls))
-    → getD (stampsIn (heardFrom limit (startState limit t first) calls)) i 0
-    ≡ getD (stampsIn (heardFrom limit (startState limit t first) calls)) j 0 → ⊥
+    → i < j → j < length (stampsIn (answersFrom limit (startState limit t first) calls))
+    → getD (stampsIn (answersFrom limit (startState limit t first) calls)) i 0
+    ≡ getD (stampsIn (answersFrom limit (startState limit t first) calls)) j 0 → ⊥

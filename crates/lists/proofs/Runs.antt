@@ -35,7 +35,7 @@ module _ {S C A : Type 0} (step : S → C → Result S A) where
   pub answers-append : (s : S) (calls more : List C) → answers step s (calls ++ more) ≡ answers step s calls ++ answers step (end step s calls) more
   unfolding end answers
   answers-append s [] more = refl
-  answers-append s (c ∷ calls) more = ap (λ heard. step s c .answer ∷ heard) (answers-append (step s c .state) calls more)
+  answers-append s (c ∷ calls) more = ap (λ answered. step s c .answer ∷ answered) (answers-append (step s c .state) calls more)
 
   -- and the answer to one call more is the last
   pub answers-more : (s : S) (calls : List C) (c : C) → answers step s (calls ++ (c ∷ [])) ≡ answers step s calls ++ (step (end step s calls) c .answer ∷ [])
@@ -78,4 +78,4 @@ module _ {S C A : Type 0} (one other : S → C → Result S A) (P : S → Type 0
   pub same-answers : (s : S) (calls : List C) → P s → answers one s calls ≡ answers other s calls
   unfolding answers
   same-answers s [] p = refl
-  same-answers s (c ∷ calls) p = rw (agree s c p) (ap (λ heard. other s c .answer ∷ heard) (same-answers (other s c .state) calls (kept s c p)))
+  same-answers s (c ∷ calls) p = rw (agree s c p) (ap (λ answered. other s c .answer ∷ answered) (same-answers (other s c .state) calls (kept s c p)))

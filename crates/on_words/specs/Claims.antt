@@ -121,9 +121,9 @@ abbrev pub In-a-row : Type 0
 In-a-row =
     (most room : ℕ) (s : State) (old : List ℕ) (calls : List Call) → Fits most room s → length old ≡ 2
     → let lent : Lent = record { words = stateWords s; answer = old } in
-    let heard = answers (called room) s calls in
-    (end (lentCall most) lent calls ≡ record { words = stateWords (end (called room) s calls); answer = lastTold old heard })
-    × (answers (lentCall most) lent calls ≡ map answerCode heard)
+    let answered = answers (called room) s calls in
+    (end (lentCall most) lent calls ≡ record { words = stateWords (end (called room) s calls); answer = lastTold old answered })
+    × (answers (lentCall most) lent calls ≡ map answerCode answered)
 
 -- the state whose words a start leaves, whatever the bytes or the numbers, is one that the claims above hold for
 abbrev pub Start-shaped : Type 0

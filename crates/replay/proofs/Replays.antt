@@ -96,10 +96,10 @@ length-answer (granted stamp p) = refl
 length-answer (idle stamp) = refl
 length-answer (refused r) = refl
 
-pub length-words : (heard : List Answer) → length (wordsOf heard) ≡ 3 * length heard
+pub length-words : (answered : List Answer) → length (wordsOf answered) ≡ 3 * length answered
 unfolding joined
 length-words [] = refl
-length-words (a ∷ heard) = omega (arith, length-append (answerWords a) (wordsOf heard), length-answer a, length-words heard)
+length-words (a ∷ answered) = omega (arith, length-append (answerWords a) (wordsOf answered), length-answer a, length-words answered)
 
 -- three numbers stored behind those that are written
 written-more : (words old : List ℕ) (k x y z : ℕ) → length words ≡ k → k + 3 ≤ length old
@@ -139,8 +139,8 @@ module _ (limit : ℕ) (calls old : List ℕ) (s : State) (n : ℕ) where
   length-so-far : (i : ℕ) → 3 * i ≤ length calls → length (wordsOf (answers (called limit) s (take i (callsOf calls)))) ≡ 3 * i
   length-so-far i h =
       let inside : i ≤ length (callsOf calls) = omega (arith, length-calls calls) in
-      let heard = answers (called limit) s (take i (callsOf calls)) in
-      omega (arith, length-words heard, length-answers (called limit) s (take i (callsOf calls)), length-take-le i (callsOf calls) inside)
+      let answered = answers (called limit) s (take i (callsOf calls)) in
+      omega (arith, length-words answered, length-answers (called limit) s (take i (callsOf calls)), length-take-le i (callsOf calls) inside)
 
   -- one call more, on the state that the one before handed back
   pub standing-more : (words : List ℕ) (state : State) (i : ℕ) (m : Made) → Standing limit calls old s n words state i → i < n
@@ -149,7 +149,7 @@ module _ (limit : ℕ) (calls old : List ℕ) (s : State) (n : ℕ) where
   standing-more words state i m g h made =
       let call = callOf (getD calls (3 * i) 0) (getD calls (3 * i + 1) 0) (getD calls (3 * i + 2) 0) in
       let before = take i (callsOf calls) in
-      let heard = answers (called limit) s before in
+      let answered = answers (called limit) s before in
       let bound : 3 * n ≤ length calls = g .calls-fit in
       let room : 3 * n ≤ length old = g .answers-fit in
       let next : take (i + 1) (callsOf calls) ≡ before ++ (call ∷ []) = one-more-call calls i (omega arith) in
@@ -161,9 +161,9 @@ module _ (limit : ℕ) (calls old : List ℕ) (s : State) (n : ℕ) where
         after = made .state ∙ ap (λ (x : State). called limit x call .state) (g .after) ∙ sym (ap (end (called limit) s) next ∙ end-more (called limit) s before call);
         written =
             ap (λ (l : List ℕ). set (set (set l (3 * i) (m .words .0)) (3 * i + 1) (m .words .1)) (3 * i + 2) (m .words .2)) (g .written)
-            ∙ written-more (wordsOf heard) old (3 * i) (m .words .0) (m .words .1) (m .words .2) (length-so-far i (omega arith)) (omega arith)
-            ∙ ap (λ (l : List ℕ). writtenOver (wordsOf heard ++ l) old) (made .words ∙ ap (λ (x : State). answerWords (called limit x call .answer)) (g .after))
-            ∙ ap (λ (l : List ℕ). writtenOver l old) (sym (joined-more answerWords heard (called limit (end (called limit) s before) call .answer)))
+            ∙ written-more (wordsOf answered) old (3 * i) (m .words .0) (m .words .1) (m .words .2) (length-so-far i (omega arith)) (omega arith)
+            ∙ ap (λ (l : List ℕ). writtenOver (wordsOf answered ++ l) old) (made .words ∙ ap (λ (x : State). answerWords (called limit x call .answer)) (g .after))
+            ∙ ap (λ (l : List ℕ). writtenOver l old) (sym (joined-more answerWords answered (called limit (end (called limit) s before) call .answer)))
             ∙ ap (λ (l : List Answer). writtenOver (wordsOf l) old) (sym (ap (answers (called limit) s) next ∙ answers-more (called limit) s before call));
       }
 

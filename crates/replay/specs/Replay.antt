@@ -43,7 +43,7 @@ answerWords (refused r) = 3 ∷ r .number ∷ 0 ∷ []
 
 -- the numbers of the answers, in order
 abbrev pub wordsOf : List Answer → List ℕ
-wordsOf heard = joined answerWords heard
+wordsOf answered = joined answerWords answered
 
 -- what a replay comes to: the state, what the start answered, and the lent answers afterwards
 pub record Replayed : Type 0 where

@@ -19,7 +19,7 @@ use Rattle.arbiter.specs.declared.start.StartResult.{StartResult}
 use Rattle.arbiter.specs.ByValue.{held}
 use Rattle.rule.specs.Calls.{Call, called}
 use Rattle.rule.specs.Grants.{toPlace, toFirst}
-use Rattle.guarantees.specs.Counts.{inSlot, slotsIn, grantsTo, grantsToFirst, Accepted, startState, stateAfter, heardFrom}
+use Rattle.guarantees.specs.Counts.{inSlot, slotsIn, grantsTo, grantsToFirst, Accepted, startState, stateAfter, answersFrom}
 use Rattle.guarantees.proofs.Start.{start-ends}
 use Rattle.guarantees.proofs.Demand3.{demand-3}
 use Rattle.replay.specs.Replay.{madeCalls, answerWords, wordsOf, Replayed, callsFrom, continued, replay, replayedOf}
@@ -37,32 +37,32 @@ module _ (f : ℕ → ℕ → ℕ → ℕ) where
   one-answer (idle stamp) rest = omega arith
   one-answer (refused r) rest = omega arith
 
-  counted : (g : Answer → ℕ) → ((a : Answer) → threes f (answerWords a) ≡ g a) → (heard : List Answer) → threes f (wordsOf heard) ≡ total g heard
+  counted : (g : Answer → ℕ) → ((a : Answer) → threes f (answerWords a) ≡ g a) → (answered : List Answer) → threes f (wordsOf answered) ≡ total g answered
   unfolding threes joined total
   counted g same [] = refl
-  counted g same (a ∷ heard) = one-answer a (wordsOf heard) ∙ rw (same a, counted g same heard)
+  counted g same (a ∷ answered) = one-answer a (wordsOf answered) ∙ rw (same a, counted g same answered)
 
-slots-told : (heard : List Answer) → slotsTold (wordsOf heard) ≡ slotsIn heard
+slots-told : (answered : List Answer) → slotsTold (wordsOf answered) ≡ slotsIn answered
 unfolding threes answerWords
-slots-told heard = counted _ _ one heard where
+slots-told answered = counted _ _ one answered where
   one : (a : Answer) → slotsTold (answerWords a) ≡ inSlot 0 (λ g. 1) a
   one accepted = refl
   one (granted stamp p) = refl
   one (idle stamp) = refl
   one (refused r) = refl
 
-grants-told : (p : ℕ) (heard : List Answer) → grantsTold p (wordsOf heard) ≡ grantsTo p heard
+grants-told : (p : ℕ) (answered : List Answer) → grantsTold p (wordsOf answered) ≡ grantsTo p answered
 unfolding threes answerWords toPlace
-grants-told p heard = counted _ _ one heard where
+grants-told p answered = counted _ _ one answered where
   one : (a : Answer) → grantsTold p (answerWords a) ≡ inSlot 0 (toPlace p) a
   one accepted = refl
   one (granted stamp i) = omega arith
   one (idle stamp) = refl
   one (refused r) = refl
 
-first-told : (k : ℕ) (heard : List Answer) → grantsToldToFirst k (wordsOf heard) ≡ grantsToFirst k heard
+first-told : (k : ℕ) (answered : List Answer) → grantsToldToFirst k (wordsOf answered) ≡ grantsToFirst k answered
 unfolding threes answerWords toFirst
-first-told k heard = counted _ _ one heard where
+first-told k answered = counted _ _ one answered where
   one : (a : Answer) → grantsToldToFirst k (answerWords a) ≡ inSlot 0 (toFirst k) a
   one accepted = refl
   one (granted stamp i) = omega arith
@@ -75,22 +75,22 @@ module _ {S C A : Type 0} (step : S → C → Result S A) where
   answers-append : (s : S) (calls more : List C) → answers step s (calls ++ more) ≡ answers step s calls ++ answers step (end step s calls) more
   unfolding end answers
   answers-append s [] more = refl
-  answers-append s (c ∷ calls) more = ap (λ heard. step s c .answer ∷ heard) (answers-append (step s c .state) calls more)
+  answers-append s (c ∷ calls) more = ap (λ answered. step s c .answer ∷ answered) (answers-append (step s c .state) calls more)
 
 -- the numbers in the middle of three lists of answers
-middle-told : (ahead heard behind : List Answer) (rest : List ℕ) (i m : ℕ) → length ahead ≡ i → length heard ≡ m
-    → answersTold i m (wordsOf (ahead ++ (heard ++ behind)) ++ rest) ≡ wordsOf heard
-middle-told ahead heard behind rest i m e f =
-    let split : wordsOf (ahead ++ (heard ++ behind)) ++ rest ≡ wordsOf ahead ++ (wordsOf heard ++ (wordsOf behind ++ rest)) =
+middle-told : (ahead answered behind : List Answer) (rest : List ℕ) (i m : ℕ) → length ahead ≡ i → length answered ≡ m
+    → answersTold i m (wordsOf (ahead ++ (answered ++ behind)) ++ rest) ≡ wordsOf answered
+middle-told ahead answered behind rest i m e f =
+    let split : wordsOf (ahead ++ (answered ++ behind)) ++ rest ≡ wordsOf ahead ++ (wordsOf answered ++ (wordsOf behind ++ rest)) =
     rw (
-      joined-append answerWords ahead (heard ++ behind),
-      joined-append answerWords heard behind,
-      append-assoc (wordsOf ahead) (wordsOf heard ++ wordsOf behind) rest,
-      append-assoc (wordsOf heard) (wordsOf behind) rest,
+      joined-append answerWords ahead (answered ++ behind),
+      joined-append answerWords answered behind,
+      append-assoc (wordsOf ahead) (wordsOf answered ++ wordsOf behind) rest,
+      append-assoc (wordsOf answered) (wordsOf behind) rest,
     ) in
     ap (answersTold i m) split
-    ∙ ap (take (3 * m)) (drop-at (wordsOf ahead) (wordsOf heard ++ (wordsOf behind ++ rest)) (3 * i) (length-words ahead ∙ ap (λ k. 3 * k) e))
-    ∙ take-at (wordsOf heard) (wordsOf behind ++ rest) (3 * m) (length-words heard ∙ ap (λ k. 3 * k) f)
+    ∙ ap (take (3 * m)) (drop-at (wordsOf ahead) (wordsOf answered ++ (wordsOf behind ++ rest)) (3 * i) (length-words ahead ∙ ap (λ k. 3 * k) e))
+    ∙ take-at (wordsOf answered) (wordsOf behind ++ rest) (3 * m) (length-words answered ∙ ap (λ k. 3 * k) f)
 
 module _ (limit : ℕ) (s : State) (made : List Call) (old : List ℕ) (i m : ℕ) (h : i + m ≤ length made) where
   abbrev before : List Call
@@ -108,9 +108,9 @@ module _ (limit : ℕ) (s : State) (made : List Call) (old : List ℕ) (i m : �
   calls-parted : made ≡ before ++ (inside ++ behind)
   calls-parted = sym (ap (λ l. before ++ l) (take-append-drop m (drop i made)) ∙ take-append-drop i made)
 
-  heard-parted : answers (called limit) s made
+  answered-parted : answers (called limit) s made
       ≡ answers (called limit) s before ++ (answers (called limit) then-state inside ++ answers (called limit) (end (called limit) then-state inside) behind)
-  heard-parted =
+  answered-parted =
       ap (answers (called limit) s) calls-parted
       ∙ answers-append (called limit) s before (inside ++ behind)
       ∙ ap (λ l. answers (called limit) s before ++ l) (answers-append (called limit) then-state inside behind)
@@ -122,7 +122,7 @@ module _ (limit : ℕ) (s : State) (made : List Call) (old : List ℕ) (i m : �
       let ahead-long : length (answers (called limit) s before) ≡ i = length-answers (called limit) s before ∙ length-take-le i made (omega arith) in
       let inside-long : length (answers (called limit) then-state inside) ≡ m =
       length-answers (called limit) then-state inside ∙ length-take-le m (drop i made) (omega (arith, length-drop i made)) in
-      ap (λ l. answersTold i m (wordsOf l ++ drop (length (wordsOf (answers (called limit) s made))) old)) heard-parted
+      ap (λ l. answersTold i m (wordsOf l ++ drop (length (wordsOf (answers (called limit) s made))) old)) answered-parted
       ∙ middle-told (answers (called limit) s before) (answers (called limit) then-state inside) _ _ i m ahead-long inside-long
 
 -- ---- from an accepted start
@@ -163,7 +163,7 @@ began limit t first calls old r words rows e a = start-ends limit t first
     absurd (omega arith))
 
 pub told-counts : Told-counts
-told-counts heard = (slots-told heard, (λ p. grants-told p heard), (λ k. first-told k heard))
+told-counts answered = (slots-told answered, (λ p. grants-told p answered), (λ k. first-told k answered))
 
 pub replay-keeps-demand-3 : Replay-keeps-demand-3
 replay-keeps-demand-3 limit t first calls old r words rows e a =
@@ -173,11 +173,11 @@ replay-keeps-demand-3 limit t first calls old r words rows e a =
       stretch = λ i m h.
           let made = madeCalls calls old in
           let d = demand-3 limit t first (b .start-accepted) (take i made) (take m (drop i made)) in
-          let heard = heardFrom limit (stateAfter limit t first (take i made)) (take m (drop i made)) in
-          let told : answersTold i m words ≡ wordsOf heard = ap (answersTold i m) (b .written) ∙ stretch-told limit (startState limit t first) made old i m h in
+          let answered = answersFrom limit (stateAfter limit t first (take i made)) (take m (drop i made)) in
+          let told : answersTold i m words ≡ wordsOf answered = ap (answersTold i m) (b .written) ∙ stretch-told limit (startState limit t first) made old i m h in
           record {
             by-rule = told ∙ ap wordsOf (d .inside-by-rule);
-            ceiling = λ k least most. rw (told, slots-told heard, first-told k heard) (d .ceiling k least most);
-            floor = λ p place waits enough. rw (told, slots-told heard, grants-told p heard) (d .floor p place waits enough);
+            ceiling = λ k least most. rw (told, slots-told answered, first-told k answered) (d .ceiling k least most);
+            floor = λ p place waits enough. rw (told, slots-told answered, grants-told p answered) (d .floor p place waits enough);
           };
     }

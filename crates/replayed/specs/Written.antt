@@ -43,10 +43,10 @@ answersTold i m words = take (3 * m) (drop (3 * i) words)
 -- so counted, the numbers of answers say what the answers say
 abbrev pub Told-counts : Type 0
 Told-counts =
-    (heard : List Answer)
-    → (slotsTold (wordsOf heard) ≡ slotsIn heard)
-    × ((p : ℕ) → grantsTold p (wordsOf heard) ≡ grantsTo p heard)
-    × ((k : ℕ) → grantsToldToFirst k (wordsOf heard) ≡ grantsToFirst k heard)
+    (answered : List Answer)
+    → (slotsTold (wordsOf answered) ≡ slotsIn answered)
+    × ((p : ℕ) → grantsTold p (wordsOf answered) ≡ grantsTo p answered)
+    × ((k : ℕ) → grantsToldToFirst k (wordsOf answered) ≡ grantsToFirst k answered)
 
 -- what a stretch's numbers keep to: `before` leads to the stretch, and `inside` holds its calls
 pub record Kept (t : Table) (first : ℕ) (before inside : List Call) (numbers : List ℕ) : Type 0 where
