@@ -16,7 +16,7 @@ use Rattle.layout.proofs.RoundTrip.{account-at}
 use Rattle.admission.specs.Checked.{tableIn, Checked}
 use Rattle.admission.proofs.Rows.{rows-length, row-at, room-past, Placed, placed}
 use Rattle.soundness.proofs.Places.{sound-checked}
-use Rattle.asking.specs.Look.{told, refused, standing}
+use Rattle.asking.specs.Look.{looked, refused, standing}
 
 -- ---- words
 
@@ -48,6 +48,6 @@ module _ (limit : ℕ) (s : State) where
   unfolding standing gate
   standing-unsound not = rw not
 
-  pub standing-told : sound limit s ≡ true → told (record { slot = s .slot .0; count = s .table .count }) ≡ standing limit s
+  pub standing-looked : sound limit s ≡ true → looked (record { slot = s .slot .0; count = s .table .count }) ≡ standing limit s
   unfolding standing gate
-  standing-told ok = rw ok
+  standing-looked ok = rw ok

@@ -10,27 +10,27 @@ use Rattle.terms.specs.declared.answers.StandingAnswer as code-standing
 use Rattle.terms.specs.declared.answers.StandingAnswer.the-variants as standing-answer
 
 -- what was asked for, or why it is not told
-pub data Told (X : Type 0) : Type 0 where
-  told : X → Told X
-  refused : Refusal → Told X
+pub data Looked (X : Type 0) : Type 0 where
+  looked : X → Looked X
+  refused : Refusal → Looked X
 
 -- the account of place p
-unfoldable pub accountAsked : ℕ → State → (place : ℕ) → Told Account
-accountAsked limit s p = resolve (placeVerdict limit s p) (told (accountAt p (s .accounts))) refused
+unfoldable pub accountAsked : ℕ → State → (place : ℕ) → Looked Account
+accountAsked limit s p = resolve (placeVerdict limit s p) (looked (accountAt p (s .accounts))) refused
 
 -- where a line stands
 pub record Standing : Type 0 where
   pub slot : ℕ
   pub count : ℕ
 
-unfoldable pub standing : ℕ → State → Told Standing
-standing limit s = resolve (gate (refusal 23) (sound limit s) faultless) (told (record { slot = s .slot .0; count = s .table .count })) refused
+unfoldable pub standing : ℕ → State → Looked Standing
+standing limit s = resolve (gate (refusal 23) (sound limit s) faultless) (looked (record { slot = s .slot .0; count = s .table .count })) refused
 
 -- the code's answers in these values
-abbrev pub accountAnswerOf : code-account.AccountAnswer → Told Account
-accountAnswerOf (account-answer.Told a) = told a
+abbrev pub accountAnswerOf : code-account.AccountAnswer → Looked Account
+accountAnswerOf (account-answer.Told a) = looked a
 accountAnswerOf (account-answer.Refused c) = refused (refusalOf c)
 
-abbrev pub standingAnswerOf : code-standing.StandingAnswer → Told Standing
-standingAnswerOf (standing-answer.Stands at n) = told (record { slot = at .0; count = n })
+abbrev pub standingAnswerOf : code-standing.StandingAnswer → Looked Standing
+standingAnswerOf (standing-answer.Stands at n) = looked (record { slot = at .0; count = n })
 standingAnswerOf (standing-answer.Refused c) = refused (refusalOf c)

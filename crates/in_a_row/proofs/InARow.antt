@@ -26,7 +26,7 @@ use Rattle.terms.specs.TableResult.{TableResult}
 use Rattle.table_bytes.specs.Reading.{Read, read, stop, next, readAs, numberRead, itemsRead, readTable}
 use Rattle.table_bytes.proofs.Accepted.{stop-read, next-open, read-same}
 use Rattle.reads.specs.Reads.{countsRead, startRead, stateRead, begun}
-use Rattle.listing.specs.Listing.{Step, more, last, played, slotTold, slotStep, step, headed, firstStep, texts, listing}
+use Rattle.listing.specs.Listing.{Step, more, last, played, slotOutput, slotStep, step, headed, firstStep, texts, listing}
 use Rattle.lines.specs.Lines.{header, endLine, refusedLine}
 use Rattle.in_a_row.specs.InARow.{InARow, Prints-listing, Comes-to-an-end, Too-long}
 use Rattle.reads.proofs.Counting.{count}
@@ -62,12 +62,12 @@ abbrev pub follows : Step → ℕ
 follows (more text s rest) = suc (length rest)
 follows (last text s) = 0
 
-told-leaves : (s : State) (answer : Answer) (after : State) (rest : List ℕ) → follows (slotTold s answer after rest) ≤ suc (length rest)
-unfolding slotTold
-told-leaves s (granted stamp p) after rest = omega arith
-told-leaves s (idle stamp) after rest = omega arith
-told-leaves s (refused why) after rest = omega arith
-told-leaves s accepted after rest = omega arith
+output-leaves : (s : State) (answer : Answer) (after : State) (rest : List ℕ) → follows (slotOutput s answer after rest) ≤ suc (length rest)
+unfolding slotOutput
+output-leaves s (granted stamp p) after rest = omega arith
+output-leaves s (idle stamp) after rest = omega arith
+output-leaves s (refused why) after rest = omega arith
+output-leaves s accepted after rest = omega arith
 
 slot-leaves : (limit : ℕ) (s : State) (bytes : List ℕ) → 1 ≤ s .table .count → follows (slotStep limit s (countsRead (s .table .count) bytes)) ≤ length bytes
 unfolding slotStep
@@ -75,7 +75,7 @@ slot-leaves limit s bytes some = told (countsRead (s .table .count) bytes) refl 
   told : (r : Read (List ℕ)) → countsRead (s .table .count) bytes ≡ r → follows (slotStep limit s r) ≤ length bytes
   told (read counts rest) e =
       let done = played limit s counts in
-      omega (arith, told-leaves s (done .answer) (done .state) rest, items-shorter (s .table .count) 0 bytes counts rest e)
+      omega (arith, output-leaves s (done .answer) (done .state) rest, items-shorter (s .table .count) 0 bytes counts rest e)
   told (stop why) e = omega arith
 
 pub step-leaves : (limit : ℕ) (s : State) (rest : List ℕ) → follows (step limit s rest) ≤ length rest

@@ -11,15 +11,15 @@ use Rattle.lists.specs.Choices.{pick}
 use Rattle.terms.specs.State.{State}
 use Rattle.terms.specs.Limits.{maxPlaces}
 use Rattle.arbiter.specs.ByValue.{held}
-use Rattle.listing.specs.declared.steps.Told.the-variants.{More, NoRoom}
+use Rattle.listing.specs.declared.steps.Output.the-variants.{More, NoRoom}
 use Rattle.listing.specs.declared.steps.StepResult.{StepResult}
 use Rattle.listing.specs.Listing.{Step, step}
-use Rattle.listing.specs.Room.{lineRoom, Outcome, told, noRoom, written, inBuffer, toldOf, outcomeOf}
+use Rattle.listing.specs.Room.{lineRoom, Outcome, written-out, noRoom, written, inBuffer, outputOf, outcomeOf}
 use Rattle.in_a_row.proofs.InARow.{follows, step-leaves}
 
 -- how many steps may follow an outcome
 abbrev followsOutcome : Outcome → ℕ
-followsOutcome (told t buffer) = follows t
+followsOutcome (written-out t buffer) = follows t
 followsOutcome (noRoom s buffer) = 0
 
 buffer-follows : (t : Step) (given : State) (old : List ℕ) → followsOutcome (inBuffer maxPlaces t given old) ≤ follows t
@@ -29,14 +29,14 @@ buffer-follows t given old = by-room (leb (lineRoom maxPlaces) (length old)) whe
   by-room false = omega arith
 
 module _ (s : State) (bytes old buffer : List ℕ) (r : StepResult) (e : outcomeOf bytes r buffer ≡ inBuffer maxPlaces (step maxPlaces s bytes) s old) where
-  pub more-takes : (wrote taken : ℕ) → r .told ≡ More wrote taken → 1 ≤ taken
+  pub more-takes : (wrote taken : ℕ) → r .output ≡ More wrote taken → 1 ≤ taken
   more-takes wrote taken f =
       let here : suc (length (drop taken bytes)) ≡ followsOutcome (inBuffer maxPlaces (step maxPlaces s bytes) s old) =
-      sym (ap (λ w. followsOutcome (toldOf bytes w (held (r .state)) buffer)) f) ∙ ap followsOutcome e in
+      sym (ap (λ w. followsOutcome (outputOf bytes w (held (r .state)) buffer)) f) ∙ ap followsOutcome e in
       omega (arith, here, buffer-follows (step maxPlaces s bytes) s old, step-leaves maxPlaces s bytes, length-drop taken bytes)
 
-  pub no-room : r .told ≡ NoRoom → length old < lineRoom maxPlaces
-  no-room f = by-room (leb (lineRoom maxPlaces) (length old)) refl (sym (ap (λ w. toldOf bytes w (held (r .state)) buffer) f) ∙ e) where
+  pub no-room : r .output ≡ NoRoom → length old < lineRoom maxPlaces
+  no-room f = by-room (leb (lineRoom maxPlaces) (length old)) refl (sym (ap (λ w. outputOf bytes w (held (r .state)) buffer) f) ∙ e) where
     by-room : (room : Bool) → leb (lineRoom maxPlaces) (length old) ≡ room → noRoom (held (r .state)) buffer ≡ pick room (written (step maxPlaces s bytes) old) (noRoom s old) → length old < lineRoom maxPlaces
     by-room true l g = let z : _≡_ {A = ℕ} 0 1 = cc in absurd (omega arith)
     by-room false l g = leb-false (lineRoom maxPlaces) (length old) l

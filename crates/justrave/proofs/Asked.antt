@@ -25,7 +25,7 @@ use Rattle.outcomes.specs.Outcomes.{refusalCode, wrongLength}
 use Rattle.outcomes.specs.Places.{Below}
 use Rattle.outcomes.proofs.Numbering.{below-more}
 use Rattle.outcomes.proofs.Places.{figures-name-below, chains-name-below, leads-name-below, write-names-below, looks-name-below, standings-name-below}
-use Rattle.justrave.specs.Exported.{Figured, figuresTold, figured, chainTold, chained, lookTold, accountTold, stands, standingTold, Led, leadTold, led, Wrote, writeWords, writeCode, writeTold, wrote, ordered}
+use Rattle.justrave.specs.Exported.{Figured, figuresOutput, figured, chainOutput, chained, lookOutput, accountExported, stands, standingExported, Led, leadOutput, led, Wrote, writeWords, writeCode, writeOutput, wrote, ordered}
 use Rattle.justrave.proofs.Lengths.{lent-room, lent-beside, lent-shut, lent-open}
 
 -- an answer of one number
@@ -62,37 +62,37 @@ module _ (most : ℕ) (words : List ℕ) where
     module _ (p j : ℕ) where
       pub figures-shut : hold ≡ false → down ≡ figured most words p j old
       unfolding figured
-      figures-shut z = lent-shut most words (eqb (length old) 2) hold e down (λ limit s. figuresTold old (asked.figures limit s p j)) z
+      figures-shut z = lent-shut most words (eqb (length old) 2) hold e down (λ limit s. figuresOutput old (asked.figures limit s p j)) z
 
       module _ (z : hold ≡ true) (d : asked.FiguresAnswer) (f : d ≡ asked.figures room s p j) where
-        pub figures-told : (x : Figured) → x ≡ figuresTold old d → x ≡ figured most words p j old
+        pub figures-output : (x : Figured) → x ≡ figuresOutput old d → x ≡ figured most words p j old
         unfolding figured
-        figures-told x g = lent-open most words (eqb (length old) 2) hold e down (λ limit s. figuresTold old (asked.figures limit s p j)) z x (g ∙ ap (figuresTold old) f)
+        figures-output x g = lent-open most words (eqb (length old) 2) hold e down (λ limit s. figuresOutput old (asked.figures limit s p j)) z x (g ∙ ap (figuresOutput old) f)
 
         pub figures-below : (r : Refusal) → d ≡ asked.refused r → Below most (r .place)
         figures-below r h = below z r (figures-name-below room s p j r (sym f ∙ h) .place)
 
     module _ (p : ℕ) where
-      pub account-shut : hold ≡ false → down ≡ accountTold most words p old
-      unfolding accountTold
-      account-shut z = lent-shut most words (eqb (length old) 2) hold e down (λ limit s. lookTold old (look.accountAsked limit s p)) z
+      pub account-shut : hold ≡ false → down ≡ accountExported most words p old
+      unfolding accountExported
+      account-shut z = lent-shut most words (eqb (length old) 2) hold e down (λ limit s. lookOutput old (look.accountAsked limit s p)) z
 
-      module _ (z : hold ≡ true) (d : look.Told Account) (f : d ≡ look.accountAsked room s p) where
-        pub account-told : (x : Figured) → x ≡ lookTold old d → x ≡ accountTold most words p old
-        unfolding accountTold
-        account-told x g = lent-open most words (eqb (length old) 2) hold e down (λ limit s. lookTold old (look.accountAsked limit s p)) z x (g ∙ ap (lookTold old) f)
+      module _ (z : hold ≡ true) (d : look.Looked Account) (f : d ≡ look.accountAsked room s p) where
+        pub account-output : (x : Figured) → x ≡ lookOutput old d → x ≡ accountExported most words p old
+        unfolding accountExported
+        account-output x g = lent-open most words (eqb (length old) 2) hold e down (λ limit s. lookOutput old (look.accountAsked limit s p)) z x (g ∙ ap (lookOutput old) f)
 
         pub account-below : (r : Refusal) → d ≡ look.refused r → Below most (r .place)
         account-below r h = below z r (looks-name-below room s p r (sym f ∙ h) .place)
 
-    pub standing-shut : hold ≡ false → down ≡ standingTold most words old
-    unfolding standingTold
+    pub standing-shut : hold ≡ false → down ≡ standingExported most words old
+    unfolding standingExported
     standing-shut z = lent-shut most words (eqb (length old) 2) hold e down (λ limit s. stands old (look.standing limit s)) z
 
-    module _ (z : hold ≡ true) (d : look.Told look.Standing) (f : d ≡ look.standing room s) where
-      pub standing-told : (x : Figured) → x ≡ stands old d → x ≡ standingTold most words old
-      unfolding standingTold
-      standing-told x g = lent-open most words (eqb (length old) 2) hold e down (λ limit s. stands old (look.standing limit s)) z x (g ∙ ap (stands old) f)
+    module _ (z : hold ≡ true) (d : look.Looked look.Standing) (f : d ≡ look.standing room s) where
+      pub standing-output : (x : Figured) → x ≡ stands old d → x ≡ standingExported most words old
+      unfolding standingExported
+      standing-output x g = lent-open most words (eqb (length old) 2) hold e down (λ limit s. stands old (look.standing limit s)) z x (g ∙ ap (stands old) f)
 
       pub standing-below : (r : Refusal) → d ≡ look.refused r → Below most (r .place)
       standing-below r h = below z r (standings-name-below room s r (sym f ∙ h) .place)
@@ -104,7 +104,7 @@ module _ (most : ℕ) (words : List ℕ) where
     chain-down = record { answer = old; outcome = wrongLength }
 
     abbrev chain-call : ℕ → State → Figured
-    chain-call limit s = chainTold old (chains.chain limit s p names)
+    chain-call limit s = chainOutput old (chains.chain limit s p names)
 
     abbrev lent-both : Bool
     lent-both = eqb (length old) 1 && eqb (length names) room
@@ -122,14 +122,14 @@ module _ (most : ℕ) (words : List ℕ) where
     chain-names-shut h = lent-shut most words lent-both (hold && eqb (length names) room) both chain-down chain-call (and-false hold _ (ne-eqb (length names) room h))
 
     module _ (z : hold ≡ true) (h : length names ≡ room) (d : chains.ChainAnswer) (f : d ≡ chains.chain room s p names) where
-      pub chain-told : (x : Figured) → x ≡ chainTold old d → x ≡ chained most words p names old
+      pub chain-output : (x : Figured) → x ≡ chainOutput old d → x ≡ chained most words p names old
       unfolding chained
-      chain-told x g =
+      chain-output x g =
           lent-open most words lent-both (hold && eqb (length names) room) both chain-down chain-call (true-and hold _ z (eq-eqb (length names) room h)) x
-          (g ∙ ap (chainTold old) f)
+          (g ∙ ap (chainOutput old) f)
 
       pub chain-given : (x : ℕ) (after : List ℕ) → d ≡ chains.figured x → after ≡ x ∷ [] → _≡_ {A = Figured} (record { answer = after; outcome = 0 }) (chained most words p names old)
-      chain-given x after a b = chain-told _ (rw (a, b))
+      chain-given x after a b = chain-output _ (rw (a, b))
 
       pub chain-below : (r : Refusal) → d ≡ chains.refused r → Below most (r .place)
       chain-below r g = below-more room most (r .place) (lent-room most words (eqb (length old) 1) hold e z) (chains-name-below room s p names r (sym f ∙ g) .place)
@@ -142,15 +142,15 @@ module _ (most : ℕ) (words : List ℕ) where
 
     pub lead-shut : hold ≡ false → lead-down ≡ led most words p log old
     unfolding led
-    lead-shut z = lent-shut most words (eqb (length old) 1) hold e lead-down (λ limit s. leadTold old (leads.leadAsked limit s p log)) z
+    lead-shut z = lent-shut most words (eqb (length old) 1) hold e lead-down (λ limit s. leadOutput old (leads.leadAsked limit s p log)) z
 
     module _ (z : hold ≡ true) (d : leads.LeadAnswer) (f : d ≡ leads.leadAsked room s p log) where
-      pub lead-told : (x : Led) → x ≡ leadTold old d → x ≡ led most words p log old
+      pub lead-output : (x : Led) → x ≡ leadOutput old d → x ≡ led most words p log old
       unfolding led
-      lead-told x g = lent-open most words (eqb (length old) 1) hold e lead-down (λ limit s. leadTold old (leads.leadAsked limit s p log)) z x (g ∙ ap (leadTold old) f)
+      lead-output x g = lent-open most words (eqb (length old) 1) hold e lead-down (λ limit s. leadOutput old (leads.leadAsked limit s p log)) z x (g ∙ ap (leadOutput old) f)
 
       pub lead-given : (x : ℤ) (after : List ℤ) → d ≡ leads.lead x → after ≡ x ∷ [] → _≡_ {A = Led} (record { answer = after; outcome = 0 }) (led most words p log old)
-      lead-given x after a b = lead-told _ (rw (a, b))
+      lead-given x after a b = lead-output _ (rw (a, b))
 
       pub lead-below : (r : Refusal) → d ≡ leads.refused r → Below most (r .place)
       lead-below r h = below-more room most (r .place) (lent-room most words (eqb (length old) 1) hold e z) (leads-name-below room s p log r (sym f ∙ h) .place)
@@ -162,7 +162,7 @@ module _ (most : ℕ) (words : List ℕ) where
     write-down = record { buffer = buffer; answer = old; outcome = wrongLength }
 
     abbrev write-call : ℕ → State → Wrote
-    write-call limit s = pick (sound limit s) (writeTold old (writing.writeTable limit (s .table) buffer)) (record { buffer = buffer; answer = old; outcome = refusalCode (refusal 23) })
+    write-call limit s = pick (sound limit s) (writeOutput old (writing.writeTable limit (s .table) buffer)) (record { buffer = buffer; answer = old; outcome = refusalCode (refusal 23) })
 
     pub write-shut : hold ≡ false → write-down ≡ wrote most words buffer old
     unfolding wrote
@@ -174,11 +174,11 @@ module _ (most : ℕ) (words : List ℕ) where
       write-23 u o b = lent-open most words (eqb (length old) 1) hold e write-down write-call z _ (rw (u, b))
 
       module _ (u : sound room s ≡ true) (d : writing.TableWritten) (f : d ≡ writing.writeTable room (s .table) buffer) where
-        pub write-told : (answer : List ℕ) (o : ℕ) → answer ≡ writeWords old (d .answer) → o ≡ writeCode (d .answer)
+        pub write-output : (answer : List ℕ) (o : ℕ) → answer ≡ writeWords old (d .answer) → o ≡ writeCode (d .answer)
             → _≡_ {A = Wrote} (record { buffer = d .buffer; answer = answer; outcome = o }) (wrote most words buffer old)
         unfolding wrote
-        write-told answer o a b =
-            let told : _≡_ {A = Wrote} (record { buffer = d .buffer; answer = answer; outcome = o }) (writeTold old d) = rw (a, b) in
+        write-output answer o a b =
+            let told : _≡_ {A = Wrote} (record { buffer = d .buffer; answer = answer; outcome = o }) (writeOutput old d) = rw (a, b) in
             lent-open most words (eqb (length old) 1) hold e write-down write-call z _ (told ∙ rw (u, f))
 
         pub write-below : (r : Refusal) → d .answer ≡ writing.refused r → Below most (r .place)
@@ -193,9 +193,9 @@ module _ (most : ℕ) (bytes buffer old : List ℕ) where
   unfolding ordered
   order-shut h = rw (ne-eqb (length old) 1 h)
 
-  pub order-told : length old ≡ 1 → (d : writing.TableWritten) → d ≡ orderBytes most bytes buffer → (answer : List ℕ) (o : ℕ) → answer ≡ writeWords old (d .answer) → o ≡ writeCode (d .answer)
+  pub order-output : length old ≡ 1 → (d : writing.TableWritten) → d ≡ orderBytes most bytes buffer → (answer : List ℕ) (o : ℕ) → answer ≡ writeWords old (d .answer) → o ≡ writeCode (d .answer)
       → _≡_ {A = Wrote} (record { buffer = d .buffer; answer = answer; outcome = o }) (ordered most bytes buffer old)
   unfolding ordered
-  order-told h d f answer o a b =
-      let told : _≡_ {A = Wrote} (record { buffer = d .buffer; answer = answer; outcome = o }) (writeTold old d) = rw (a, b) in
-      rw (eq-eqb (length old) 1 h) (told ∙ ap (writeTold old) f)
+  order-output h d f answer o a b =
+      let told : _≡_ {A = Wrote} (record { buffer = d .buffer; answer = answer; outcome = o }) (writeOutput old d) = rw (a, b) in
+      rw (eq-eqb (length old) 1 h) (told ∙ ap (writeOutput old) f)

@@ -46,9 +46,9 @@ module _ (most : ℕ) (words : List ℕ) where
 
     module _ (z : hold ≡ true) (left : List ℕ) (a : Answer) (long : length left ≡ length words)
         (f : _≡_ {A = Result State Answer} (record { state = stateOf left; answer = a }) (called (roomOf words) (stateOf words) (post p count))) where
-      pub post-told : (o : ℕ) → o ≡ answerCode a → _≡_ {A = Stated} (record { words = left; outcome = o }) (posted most words p count)
+      pub post-output : (o : ℕ) → o ≡ answerCode a → _≡_ {A = Stated} (record { words = left; outcome = o }) (posted most words p count)
       unfolding posted
-      post-told o b =
+      post-output o b =
           let same = words-are most words left _ (lent-right most words true hold e z) long refl in
           let here : _≡_ {A = Stated} (record { words = left; outcome = o }) (stated (record { state = stateOf left; answer = a })) = rw (← same, b) in
           lent-open most words true hold e post-down (λ limit s. stated (called limit s (post p count))) z _ (here ∙ ap stated f)
@@ -70,10 +70,10 @@ module _ (most : ℕ) (words : List ℕ) where
 
     module _ (z : hold ≡ true) (left : List ℕ) (a : Answer) (long : length left ≡ length words)
         (f : _≡_ {A = Result State Answer} (record { state = stateOf left; answer = a }) (called (roomOf words) (stateOf words) slot)) where
-      pub slot-told : (answer : List ℕ) (o : ℕ) → answer ≡ slotWords old a → o ≡ answerCode a
+      pub slot-output : (answer : List ℕ) (o : ℕ) → answer ≡ slotWords old a → o ≡ answerCode a
           → _≡_ {A = Slotted} (record { words = left; answer = answer; outcome = o }) (slotted most words old)
       unfolding slotted
-      slot-told answer o g b =
+      slot-output answer o g b =
           let same = words-are most words left _ (lent-right most words (eqb (length old) 2) hold e z) long refl in
           let here : _≡_ {A = Slotted} (record { words = left; answer = answer; outcome = o }) (slotStated old (record { state = stateOf left; answer = a })) = rw (← same, g, b) in
           lent-open most words (eqb (length old) 2) hold e slot-down (λ limit s. slotStated old (called limit s slot)) z _ (here ∙ ap (slotStated old) f)
@@ -95,9 +95,9 @@ module _ (most : ℕ) (words : List ℕ) where
 
     module _ (z : hold ≡ true) (left log : List ℕ) (a : Answer) (long : length left ≡ length words)
         (f : _≡_ {A = Outcome} (record { state = stateOf left; answer = a; log = log }) (run (roomOf words) (stateOf words) old)) where
-      pub run-told : (o : ℕ) → o ≡ answerCode a → _≡_ {A = Ran} (record { words = left; log = log; outcome = o }) (ran most words old)
+      pub run-output : (o : ℕ) → o ≡ answerCode a → _≡_ {A = Ran} (record { words = left; log = log; outcome = o }) (ran most words old)
       unfolding ran
-      run-told o b =
+      run-output o b =
           let same = words-are most words left _ (lent-right most words true hold e z) long refl in
           let here : _≡_ {A = Ran} (record { words = left; log = log; outcome = o }) (runStated (record { state = stateOf left; answer = a; log = log })) = rw (← same, b) in
           lent-open most words true hold e run-down (λ limit s. runStated (run limit s old)) z _ (here ∙ ap runStated f)

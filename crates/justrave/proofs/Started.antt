@@ -55,9 +55,9 @@ module _ (most : ℕ) (words : List ℕ) (first : ℕ) (hold : Bool) (e : hold �
 
     module _ (z : hold ≡ true) (left : List ℕ) (a : Answer) (long : length left ≡ length words)
         (f : _≡_ {A = Result State Answer} (record { state = stateOf left; answer = a }) (begun (roomOf words) (readTable (roomOf words) bytes) first)) where
-      pub bytes-told : (o : ℕ) → o ≡ answerCode a → _≡_ {A = Stated} (record { words = left; outcome = o }) (started most bytes first words)
+      pub bytes-output : (o : ℕ) → o ≡ answerCode a → _≡_ {A = Stated} (record { words = left; outcome = o }) (started most bytes first words)
       unfolding started leaves
-      bytes-told o b = let ok = lent-right most words true hold e z in rw ok (left-so most words ok left a _ long f o b)
+      bytes-output o b = let ok = lent-right most words true hold e z in rw ok (left-so most words ok left a _ long f o b)
 
       pub bytes-below : (r : Refusal) → a ≡ refused r → Below most (r .place)
       bytes-below r h =
@@ -82,9 +82,9 @@ module _ (most : ℕ) (words : List ℕ) (first : ℕ) (hold : Bool) (e : hold �
 
       module _ (all : rightNumbers (roomOf words) numbers ≡ true) (left : List ℕ) (a : Answer) (long : length left ≡ length words)
           (f : _≡_ {A = Result State Answer} (record { state = stateOf left; answer = a }) (start (roomOf words) (numbersTable (roomOf words) numbers) first)) where
-        pub numbers-told : (o : ℕ) → o ≡ answerCode a → _≡_ {A = Stated} (record { words = left; outcome = o }) (startedOf most numbers first words)
+        pub numbers-output : (o : ℕ) → o ≡ answerCode a → _≡_ {A = Stated} (record { words = left; outcome = o }) (startedOf most numbers first words)
         unfolding startedOf leaves
-        numbers-told o b =
+        numbers-output o b =
             let ok = lent-right most words true hold e z in rw (ok, all) (left-so most words ok left a _ long f o b)
 
         pub numbers-below : (r : Refusal) → a ≡ refused r → Below most (r .place)
@@ -104,9 +104,9 @@ module _ (old-most most : ℕ) (old words : List ℕ) (hold : Bool) (e : hold �
     fits : Fit old-most most old words
     fits = fit old-most most old words (sym e ∙ z)
 
-    pub carry-told : (o : ℕ) → o ≡ answerCode a → _≡_ {A = Stated} (record { words = left; outcome = o }) (carriedOver old-most most old words)
+    pub carry-output : (o : ℕ) → o ≡ answerCode a → _≡_ {A = Stated} (record { words = left; outcome = o }) (carriedOver old-most most old words)
     unfolding carriedOver leaves
-    carry-told o b = rw (sym e ∙ z) (left-so most words (fits .right) left a _ long f o b)
+    carry-output o b = rw (sym e ∙ z) (left-so most words (fits .right) left a _ long f o b)
 
     pub carry-below : (r : Refusal) → a ≡ refused r → Below most (r .place)
     carry-below r h =

@@ -117,43 +117,43 @@ pub record Figured : Type 0 where
   pub outcome : ℕ
 
 -- the reported wait, and the finish figure
-abbrev pub figuresTold : (old : List ℕ) → asked.FiguresAnswer → Figured
-figuresTold old (asked.figured wait finish) = record { answer = wait ∷ finish ∷ []; outcome = 0 }
-figuresTold old (asked.refused r) = record { answer = old; outcome = refusalCode r }
+abbrev pub figuresOutput : (old : List ℕ) → asked.FiguresAnswer → Figured
+figuresOutput old (asked.figured wait finish) = record { answer = wait ∷ finish ∷ []; outcome = 0 }
+figuresOutput old (asked.refused r) = record { answer = old; outcome = refusalCode r }
 
 unfoldable pub figured : (most : ℕ) → (words : List ℕ) → (place j : ℕ) → (old : List ℕ) → Figured
 figured most words p j old =
     onState most words (eqb (length old) 2) (record { answer = old; outcome = wrongLength })
-    λ limit s. figuresTold old (asked.figures limit s p j)
+    λ limit s. figuresOutput old (asked.figures limit s p j)
 
 -- the chain figure
-abbrev pub chainTold : (old : List ℕ) → chains.ChainAnswer → Figured
-chainTold old (chains.figured figure) = record { answer = figure ∷ []; outcome = 0 }
-chainTold old (chains.refused r) = record { answer = old; outcome = refusalCode r }
+abbrev pub chainOutput : (old : List ℕ) → chains.ChainAnswer → Figured
+chainOutput old (chains.figured figure) = record { answer = figure ∷ []; outcome = 0 }
+chainOutput old (chains.refused r) = record { answer = old; outcome = refusalCode r }
 
 -- as many names are lent as the words have room for places
 unfoldable pub chained : (most : ℕ) → (words : List ℕ) → (place : ℕ) → (names old : List ℕ) → Figured
 chained most words p names old =
     onState most words (eqb (length old) 1 && eqb (length names) (roomOf words)) (record { answer = old; outcome = wrongLength })
-    λ limit s. chainTold old (chains.chain limit s p names)
+    λ limit s. chainOutput old (chains.chain limit s p names)
 
 -- the credit and the backlog of a place
-abbrev pub lookTold : (old : List ℕ) → look.Told Account → Figured
-lookTold old (look.told a) = record { answer = credit a ∷ backlog a ∷ []; outcome = 0 }
-lookTold old (look.refused r) = record { answer = old; outcome = refusalCode r }
+abbrev pub lookOutput : (old : List ℕ) → look.Looked Account → Figured
+lookOutput old (look.looked a) = record { answer = credit a ∷ backlog a ∷ []; outcome = 0 }
+lookOutput old (look.refused r) = record { answer = old; outcome = refusalCode r }
 
-unfoldable pub accountTold : (most : ℕ) → (words : List ℕ) → (place : ℕ) → (old : List ℕ) → Figured
-accountTold most words p old =
+unfoldable pub accountExported : (most : ℕ) → (words : List ℕ) → (place : ℕ) → (old : List ℕ) → Figured
+accountExported most words p old =
     onState most words (eqb (length old) 2) (record { answer = old; outcome = wrongLength })
-    λ limit s. lookTold old (look.accountAsked limit s p)
+    λ limit s. lookOutput old (look.accountAsked limit s p)
 
 -- the slot number and N
-abbrev pub stands : (old : List ℕ) → look.Told look.Standing → Figured
-stands old (look.told x) = record { answer = x .slot ∷ x .count ∷ []; outcome = 0 }
+abbrev pub stands : (old : List ℕ) → look.Looked look.Standing → Figured
+stands old (look.looked x) = record { answer = x .slot ∷ x .count ∷ []; outcome = 0 }
 stands old (look.refused r) = record { answer = old; outcome = refusalCode r }
 
-unfoldable pub standingTold : (most : ℕ) → (words old : List ℕ) → Figured
-standingTold most words old =
+unfoldable pub standingExported : (most : ℕ) → (words old : List ℕ) → Figured
+standingExported most words old =
     onState most words (eqb (length old) 2) (record { answer = old; outcome = wrongLength })
     λ limit s. stands old (look.standing limit s)
 
@@ -161,14 +161,14 @@ pub record Led : Type 0 where
   pub answer : List ℤ
   pub outcome : ℕ
 
-abbrev pub leadTold : (old : List ℤ) → leads.LeadAnswer → Led
-leadTold old (leads.lead x) = record { answer = x ∷ []; outcome = 0 }
-leadTold old (leads.refused r) = record { answer = old; outcome = refusalCode r }
+abbrev pub leadOutput : (old : List ℤ) → leads.LeadAnswer → Led
+leadOutput old (leads.lead x) = record { answer = x ∷ []; outcome = 0 }
+leadOutput old (leads.refused r) = record { answer = old; outcome = refusalCode r }
 
 unfoldable pub led : (most : ℕ) → (words : List ℕ) → (place : ℕ) → (log : List ℕ) → (old : List ℤ) → Led
 led most words p log old =
     onState most words (eqb (length old) 1) (record { answer = old; outcome = wrongLength })
-    λ limit s. leadTold old (leads.leadAsked limit s p log)
+    λ limit s. leadOutput old (leads.leadAsked limit s p log)
 
 pub record Wrote : Type 0 where
   pub buffer : List ℕ
@@ -184,15 +184,15 @@ abbrev pub writeCode : writing.WriteAnswer → ℕ
 writeCode (writing.wrote bytes) = 0
 writeCode (writing.refused r) = refusalCode r
 
-abbrev pub writeTold : (old : List ℕ) → writing.TableWritten → Wrote
-writeTold old w = record { buffer = w .buffer; answer = writeWords old (w .answer); outcome = writeCode (w .answer) }
+abbrev pub writeOutput : (old : List ℕ) → writing.TableWritten → Wrote
+writeOutput old w = record { buffer = w .buffer; answer = writeWords old (w .answer); outcome = writeCode (w .answer) }
 
 -- the table of the state, and ahead of the writer's own checks test 23, as in every call on a state
 unfoldable pub wrote : (most : ℕ) → (words buffer old : List ℕ) → Wrote
 wrote most words buffer old =
     onState most words (eqb (length old) 1) (record { buffer = buffer; answer = old; outcome = wrongLength })
     λ limit s. pick (sound limit s)
-    (writeTold old (writing.writeTable limit (s .table) buffer))
+    (writeOutput old (writing.writeTable limit (s .table) buffer))
     (record { buffer = buffer; answer = old; outcome = refusalCode (refusal 23) })
 
 -- ---- the call that puts a table in order: no state is lent
@@ -201,5 +201,5 @@ wrote most words buffer old =
 unfoldable pub ordered : (most : ℕ) → (bytes buffer old : List ℕ) → Wrote
 ordered most bytes buffer old =
     pick (eqb (length old) 1)
-    (writeTold old (orderBytes most bytes buffer))
+    (writeOutput old (orderBytes most bytes buffer))
     (record { buffer = buffer; answer = old; outcome = wrongLength })

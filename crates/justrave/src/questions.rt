@@ -23,7 +23,7 @@ use terms::refusals::StateRefusal;
 use terms::units::Transfers;
 ghost use mathlib.Core.Path.{_≡_};
 ghost use Rattle.terms.specs.Limits.{maxPlaces};
-ghost use Rattle.justrave.specs.Exported.{figured, chained, led, wrote, accountTold, standingTold};
+ghost use Rattle.justrave.specs.Exported.{figured, chained, led, wrote, accountExported, standingExported};
 
 // The answer is the reported wait and the finish figure for j transfers. Refused: 255, 23, 11, 5.
 #[no_mangle]
@@ -114,7 +114,7 @@ pub extern "C" fn justrave_write(state: &[u64], buffer: &mut [u8], answer: &mut 
 // The answer is the credit and the backlog of the place. Refused: 255, 23, 11.
 #[no_mangle]
 pub extern "C" fn justrave_account(state: &[u64], place: usize, answer: &mut [u64]) -> u64
-    ensures { λ r. ⌜ record { answer = now (answer .exit); outcome = r } ≡ accountTold maxPlaces (now (state .entry)) place (now (answer .entry)) ⌝ }
+    ensures { λ r. ⌜ record { answer = now (answer .exit); outcome = r } ≡ accountExported maxPlaces (now (state .entry)) place (now (answer .entry)) ⌝ }
 {
     if !lengths_hold(state, answer.len() == 2) {
         return WRONG_LENGTH;
@@ -133,7 +133,7 @@ pub extern "C" fn justrave_account(state: &[u64], place: usize, answer: &mut [u6
 // The answer is the slot number and N. Refused: 255, 23.
 #[no_mangle]
 pub extern "C" fn justrave_standing(state: &[u64], answer: &mut [u64]) -> u64
-    ensures { λ r. ⌜ record { answer = now (answer .exit); outcome = r } ≡ standingTold maxPlaces (now (state .entry)) (now (answer .entry)) ⌝ }
+    ensures { λ r. ⌜ record { answer = now (answer .exit); outcome = r } ≡ standingExported maxPlaces (now (state .entry)) (now (answer .entry)) ⌝ }
 {
     if !lengths_hold(state, answer.len() == 2) {
         return WRONG_LENGTH;

@@ -32,8 +32,8 @@ use Rattle.arbiter.proofs.ByValue.{room-full, right-full}
 use Rattle.lines.specs.Text.{decimal, spaced, line}
 use Rattle.lines.specs.Lines.{header, endLine, refusedLine, placeItem, creditItems, slotLine}
 use Rattle.reads.specs.Reads.{countsRead, begun}
-use Rattle.listing.specs.Listing.{Step, more, last, posted, played, slotTold, slotStep, step, headed, firstStep}
-use Rattle.listing.specs.Room.{itemRoom, lineRoom, told, noRoom, written, inBuffer}
+use Rattle.listing.specs.Listing.{Step, more, last, posted, played, slotOutput, slotStep, step, headed, firstStep}
+use Rattle.listing.specs.Room.{itemRoom, lineRoom, written-out, noRoom, written, inBuffer}
 use Rattle.lines.proofs.Digits.{decimal-few}
 use Rattle.lines.proofs.Writing.{spacedCredit, credits-all, item-length, two-length, slot-length}
 
@@ -88,10 +88,10 @@ module _ {room : ℕ} (h : lineRoom maxPlaces ≤ room) where
 -- ---- a text at the start of the buffer is the step's
 
 -- whatever step it is the text of
-pub told-text : (shape : List ℕ → Step) (text old : List ℕ) {buffer : List ℕ} {k : ℕ} → (k ≡ length text) × (buffer ≡ writtenOver text old)
-    → told (shape (take k buffer)) buffer ≡ told (shape text) (writtenOver text old)
+pub written-out-text : (shape : List ℕ → Step) (text old : List ℕ) {buffer : List ℕ} {k : ℕ} → (k ≡ length text) × (buffer ≡ writtenOver text old)
+    → written-out (shape (take k buffer)) buffer ≡ written-out (shape text) (writtenOver text old)
 unfolding writtenOver
-told-text shape text old {buffer} {k} e =
+written-out-text shape text old {buffer} {k} e =
     let front : take k buffer ≡ text = rw (e .1) (take-at text (drop (length text) old) k (sym (e .0))) in
     rw (front, e .1)
 
@@ -150,7 +150,7 @@ module _ (limit : ℕ) (s : State) (bytes : List ℕ) where
 
   -- they are played
   pub slot-played : (counts rest : List ℕ) (done : Result State Answer) → read counts rest ≡ countsRead (s .table .count) bytes → done ≡ played limit s counts
-      → slotTold s (done .answer) (done .state) rest ≡ slotStep limit s (countsRead (s .table .count) bytes)
+      → slotOutput s (done .answer) (done .state) rest ≡ slotStep limit s (countsRead (s .table .count) bytes)
   unfolding slotStep
   slot-played counts rest done e d = rw (← e, ← d)
 

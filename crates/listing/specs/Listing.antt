@@ -40,15 +40,15 @@ played limit s counts =
 
 -- A slot's line, and the state after the slot. A refusal stops; no line stands for its slot, and the state is the one before the slot's
 -- counts. A slot is never just accepted.
-unfoldable pub slotTold : (before : State) → Answer → (after : State) → (rest : List ℕ) → Step
-slotTold before (granted stamp p) after rest = more (slotLine stamp (Place p) after) after rest
-slotTold before (idle stamp) after rest = more (slotLine stamp Nobody after) after rest
-slotTold before (refused why) after rest = last (refusedLine why) before
-slotTold before accepted after rest = last [] before
+unfoldable pub slotOutput : (before : State) → Answer → (after : State) → (rest : List ℕ) → Step
+slotOutput before (granted stamp p) after rest = more (slotLine stamp (Place p) after) after rest
+slotOutput before (idle stamp) after rest = more (slotLine stamp Nobody after) after rest
+slotOutput before (refused why) after rest = last (refusedLine why) before
+slotOutput before accepted after rest = last [] before
 
 -- a slot's counts are all read, and only then posted
 unfoldable pub slotStep : ℕ → State → Read (List ℕ) → Step
-slotStep limit s (read counts rest) = let done = played limit s counts in slotTold s (done .answer) (done .state) rest
+slotStep limit s (read counts rest) = let done = played limit s counts in slotOutput s (done .answer) (done .state) rest
 slotStep limit s (stop why) = last (refusedLine why) s
 
 -- One slot from the rest of the input, or a clean end where nothing is left of it, before the first slot too. It starts at slot 0, so

@@ -30,14 +30,14 @@ ghost use Rattle.arbiter.specs.ByValue.{held};
 ghost use Rattle.terms.specs.Answers.{slotAnswerOf};
 ghost use Rattle.lines.specs.Lines.{refusedLine};
 ghost use Rattle.reads.specs.Reads.{countsRead};
-ghost use Rattle.listing.specs.Listing.{last, slotTold, slotStep, step, firstStep};
+ghost use Rattle.listing.specs.Listing.{last, slotOutput, slotStep, step, firstStep};
 ghost use Rattle.listing.specs.Room.{lineRoom, inBuffer, written, outcomeOf, takenBy, wroteBy};
 
 // Room for any step's text: a line has at most a stamp, a place and a credit to each place, of 20 digits and a byte behind them.
 pub const LINE_ROOM: usize = (2 + Arbiter::MAX_PLACES) * 21;
 
 // How many bytes of the buffer a step wrote, and how many of the input it took. Without room it does nothing.
-pub enum Told {
+pub enum Output {
     More(usize, usize),
     Last(usize),
     NoRoom,
@@ -45,28 +45,28 @@ pub enum Told {
 
 pub struct StepResult {
     pub state: Arbiter,
-    pub told: Told,
+    pub output: Output,
 }
 
 // The refusal's line, and the state as it was.
 fn refuse(s: Arbiter, why: Cause, out: &mut [u8]) -> StepResult
     requires { ⌜ lineRoom maxPlaces ≤ length (now out) ⌝ }
     ensures { λ r. ⌜ ((bytes : List ℕ) → outcomeOf bytes r (now (out .exit)) ≡ written (last (refusedLine (refusalOf why)) (held s)) (now (out .entry))) ⌝ }
-    ensures took { λ r. ⌜ takenBy (r .told) ≡ 0 ⌝ }
-    ensures wrote { λ r. ⌜ wroteBy (r .told) ≤ length (now (out .entry)) ⌝ }
+    ensures took { λ r. ⌜ takenBy (r .output) ≡ 0 ⌝ }
+    ensures wrote { λ r. ⌜ wroteBy (r .output) ≤ length (now (out .entry)) ⌝ }
 {
     StepResult {
         state: s,
-        told: Told::Last(put_refused(why, out)),
+        output: Output::Last(put_refused(why, out)),
     }
 }
 
 // What a slot came to, whose counts took so many bytes: its line, or the refusal's.
 fn tell(before: Arbiter, done: SlotResult, taken: usize, out: &mut [u8]) -> StepResult
     requires { ⌜ (lineRoom maxPlaces ≤ length (now out)) × (held (done .state) .table .count ≤ maxPlaces) ⌝ }
-    ensures { λ r. ⌜ ((bytes : List ℕ) → outcomeOf bytes r (now (out .exit)) ≡ written (slotTold (held before) (slotAnswerOf (done .answer)) (held (done .state)) (drop taken bytes)) (now (out .entry))) ⌝ }
-    ensures took { λ r. ⌜ takenBy (r .told) ≤ taken ⌝ }
-    ensures wrote { λ r. ⌜ wroteBy (r .told) ≤ length (now (out .entry)) ⌝ }
+    ensures { λ r. ⌜ ((bytes : List ℕ) → outcomeOf bytes r (now (out .exit)) ≡ written (slotOutput (held before) (slotAnswerOf (done .answer)) (held (done .state)) (drop taken bytes)) (now (out .entry))) ⌝ }
+    ensures took { λ r. ⌜ takenBy (r .output) ≤ taken ⌝ }
+    ensures wrote { λ r. ⌜ wroteBy (r .output) ≤ length (now (out .entry)) ⌝ }
 {
     let after = done.state;
     let words = after.words;
@@ -74,11 +74,11 @@ fn tell(before: Arbiter, done: SlotResult, taken: usize, out: &mut [u8]) -> Step
     match answer {
         SlotAnswer::Granted(stamp, p) => StepResult {
             state: after,
-            told: Told::More(put_slot(stamp, Grant::Place(p), &words, out), taken),
+            output: Output::More(put_slot(stamp, Grant::Place(p), &words, out), taken),
         },
         SlotAnswer::Idle(stamp) => StepResult {
             state: after,
-            told: Told::More(put_slot(stamp, Grant::Nobody, &words, out), taken),
+            output: Output::More(put_slot(stamp, Grant::Nobody, &words, out), taken),
         },
         SlotAnswer::Refused(c) => refuse(before, c, out),
     }
@@ -88,8 +88,8 @@ fn tell(before: Arbiter, done: SlotResult, taken: usize, out: &mut [u8]) -> Step
 fn play_slot(s: Arbiter, rest: &[u8], out: &mut [u8]) -> StepResult
     requires { ⌜ (lineRoom maxPlaces ≤ length (now out)) × (sound maxPlaces (held s) ≡ true) ⌝ }
     ensures { λ r. ⌜ outcomeOf (now (rest .entry)) r (now (out .exit)) ≡ written (slotStep maxPlaces (held s) (countsRead (held s .table .count) (now (rest .entry)))) (now (out .entry)) ⌝ }
-    ensures took { λ r. ⌜ takenBy (r .told) ≤ length (now (rest .entry)) ⌝ }
-    ensures wrote { λ r. ⌜ wroteBy (r .told) ≤ length (now (out .entry)) ⌝ }
+    ensures took { λ r. ⌜ takenBy (r .output) ≤ length (now (rest .entry)) ⌝ }
+    ensures wrote { λ r. ⌜ wroteBy (r .output) ≤ length (now (out .entry)) ⌝ }
 {
     let words = s.words;
     let n = count(&words);
@@ -108,13 +108,13 @@ fn play_slot(s: Arbiter, rest: &[u8], out: &mut [u8]) -> StepResult
 // One slot from the rest of the input, or the end. Its line may be a refusal's: 23, 8, 9, 21, 22.
 pub fn step(s: Arbiter, rest: &[u8], out: &mut [u8]) -> StepResult
     ensures { λ r. ⌜ outcomeOf (now (rest .entry)) r (now (out .exit)) ≡ inBuffer maxPlaces (step maxPlaces (held s) (now (rest .entry))) (held s) (now (out .entry)) ⌝ }
-    ensures took { λ r. ⌜ takenBy (r .told) ≤ length (now (rest .entry)) ⌝ }
-    ensures wrote { λ r. ⌜ wroteBy (r .told) ≤ length (now (out .entry)) ⌝ }
+    ensures took { λ r. ⌜ takenBy (r .output) ≤ length (now (rest .entry)) ⌝ }
+    ensures wrote { λ r. ⌜ wroteBy (r .output) ≤ length (now (out .entry)) ⌝ }
 {
     if out.len() < LINE_ROOM {
         return StepResult {
             state: s,
-            told: Told::NoRoom,
+            output: Output::NoRoom,
         };
     }
     let words = s.words;
@@ -125,7 +125,7 @@ pub fn step(s: Arbiter, rest: &[u8], out: &mut [u8]) -> StepResult
         let slots = slot_number(&words);
         return StepResult {
             state: s,
-            told: Told::Last(put_end(slots, out)),
+            output: Output::Last(put_end(slots, out)),
         };
     }
     play_slot(s, rest, out)
@@ -134,13 +134,13 @@ pub fn step(s: Arbiter, rest: &[u8], out: &mut [u8]) -> StepResult
 // The header, and behind it the refusal's line if the input begins with a fault: 13, 8, 9, and the table's 1 to 7, 10 and 17.
 pub fn first_step(input: &[u8], out: &mut [u8]) -> StepResult
     ensures { λ r. ⌜ outcomeOf (now (input .entry)) r (now (out .exit)) ≡ inBuffer maxPlaces (firstStep maxPlaces (now (input .entry))) (noState maxPlaces) (now (out .entry)) ⌝ }
-    ensures took { λ r. ⌜ takenBy (r .told) ≤ length (now (input .entry)) ⌝ }
-    ensures wrote { λ r. ⌜ wroteBy (r .told) ≤ length (now (out .entry)) ⌝ }
+    ensures took { λ r. ⌜ takenBy (r .output) ≤ length (now (input .entry)) ⌝ }
+    ensures wrote { λ r. ⌜ wroteBy (r .output) ≤ length (now (out .entry)) ⌝ }
 {
     if out.len() < LINE_ROOM {
         return StepResult {
             state: Arbiter::none(),
-            told: Told::NoRoom,
+            output: Output::NoRoom,
         };
     }
     let begun = begin(input);
@@ -150,13 +150,13 @@ pub fn first_step(input: &[u8], out: &mut [u8]) -> StepResult
     match beginning {
         Beginning::Taken(taken) => StepResult {
             state: state,
-            told: Told::More(at, taken),
+            output: Output::More(at, taken),
         },
         Beginning::Refused(c) => {
             let wrote = put_refused(c, &mut out[at..]);
             StepResult {
                 state: Arbiter::none(),
-                told: Told::Last(at + wrote),
+                output: Output::Last(at + wrote),
             }
         }
     }

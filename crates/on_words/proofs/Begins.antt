@@ -18,7 +18,7 @@ use Rattle.table_bytes.specs.Reading.{readTable}
 use Rattle.table_bytes.proofs.Opened.{rows-taken, table-open, Ends, turned-down, carried-out, read-ends}
 use Rattle.starts.specs.Starts.{begun}
 use Rattle.outcomes.specs.Outcomes.{answerCode}
-use Rattle.outcomes.specs.Places.{ofATable, ToldOf}
+use Rattle.outcomes.specs.Places.{ofATable, AmongRefusals}
 use Rattle.outcomes.proofs.Places.{table-any, code-apart, start-names-below, table-start-names-below}
 use Rattle.guarantees.specs.Counts.{Accepted}
 use Rattle.guarantees.proofs.Start.{start-ends}
@@ -33,7 +33,7 @@ unfolding leaves
 left true words made e go = go e refl
 left false words made e go = absurd (omega arith)
 
-no-refusal : {X : Type 0} (limit : ℕ) (a : Answer) (r : Refusal) → a ≡ refused r → ToldOf ofATable limit r → answerCode a ≡ 0 → X
+no-refusal : {X : Type 0} (limit : ℕ) (a : Answer) (r : Refusal) → a ≡ refused r → AmongRefusals ofATable limit r → answerCode a ≡ 0 → X
 no-refusal limit a r e told f = absurd (code-apart limit r (table-any told) .0 (sym (ap answerCode e) ∙ f))
 
 -- a start of a table

@@ -20,7 +20,7 @@ use Rattle.carrying.specs.OldWords.{oldRoomOf, oldPlaceIn, oldWordsState, oldSt
 use Rattle.carrying.specs.Fits.{fitsInto}
 use Rattle.carrying.proofs.Fits.{Fit, fit}
 use Rattle.outcomes.specs.Outcomes.{refusalCode, answerCode, wrongLength}
-use Rattle.outcomes.specs.Places.{ToldOf, ofAnyCall}
+use Rattle.outcomes.specs.Places.{AmongRefusals, ofAnyCall}
 use Rattle.outcomes.proofs.Places.{state-any, carry-names-below}
 use Rattle.justrave.specs.Exported.{leaves, carriedOver}
 use Rattle.on_words.specs.Room.{more}
@@ -36,7 +36,7 @@ carry-ends old new o = by (carryVerdict old o) (λ r e. state-any (carry-names-b
     made : Verdict → Result State Answer
     made v = resolve v (record { state = longer (new - old) (asState o); answer = accepted }) (turnedDown new)
 
-    by : (v : Verdict) → ((r : Refusal) → made v .answer ≡ refused r → ToldOf ofAnyCall new r) → Ends new (answerCode (made v .answer)) (made v .state ≡ noState new)
+    by : (v : Verdict) → ((r : Refusal) → made v .answer ≡ refused r → AmongRefusals ofAnyCall new r) → Ends new (answerCode (made v .answer)) (made v .state ≡ noState new)
     by faultless t = went refl
     by (fault r) t = turned r (t r refl) refl refl
 

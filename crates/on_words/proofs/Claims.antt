@@ -42,10 +42,10 @@ use Rattle.layout.proofs.TableNumbers.{numbers-read-back}
 use Rattle.starts.specs.Starts.{begun}
 use Rattle.asking.specs.Look as look
 use Rattle.outcomes.specs.Outcomes.{refusalCode, answerCode, wrongLength}
-use Rattle.outcomes.specs.Places.{ofAnyCall, ToldOf}
+use Rattle.outcomes.specs.Places.{ofAnyCall, AmongRefusals}
 use Rattle.outcomes.proofs.Places.{table-any, state-any, chain-any, code-apart, start-names-below, table-start-names-below, calls-name-below, runs-name-below, leads-name-below, figures-name-below, chains-name-below, write-names-below, looks-name-below, standings-name-below}
-use Rattle.justrave.specs.Exported.{onState, Stated, posted, slotWords, Slotted, slotted, Ran, ran, leaves, started, startedOf, Figured, figuresTold, figured, chainTold, chained, lookTold, accountTold, stands, standingTold, leadTold, Led, led, Wrote, writeTold, wrote}
-use Rattle.on_words.specs.Claims.{Fits, Post-by-value, Start-by-value, Starts-agree, Slot-by-value, Run-by-value, Figures-by-value, Chain-by-value, Account-by-value, Standing-by-value, Lead-by-value, Write-by-value, lentCall, lastTold, In-a-row, Exactly-255, Lengths, Wrong-length, Broken, Broken-words, Start-shaped, Start-of-numbers-shaped, Refused, Clears, Post-refused, Slot-refused, Run-refused, Figures-refused, Chain-refused, Account-refused, Standing-refused, Lead-refused, Write-refused, Start-refused, Start-of-numbers-refused}
+use Rattle.justrave.specs.Exported.{onState, Stated, posted, slotWords, Slotted, slotted, Ran, ran, leaves, started, startedOf, Figured, figuresOutput, figured, chainOutput, chained, lookOutput, accountExported, stands, standingExported, leadOutput, Led, led, Wrote, writeOutput, wrote}
+use Rattle.on_words.specs.Claims.{Fits, Post-by-value, Start-by-value, Starts-agree, Slot-by-value, Run-by-value, Figures-by-value, Chain-by-value, Account-by-value, Standing-by-value, Lead-by-value, Write-by-value, lentCall, lastOutput, In-a-row, Exactly-255, Lengths, Wrong-length, Broken, Broken-words, Start-shaped, Start-of-numbers-shaped, Refused, Clears, Post-refused, Slot-refused, Run-refused, Figures-refused, Chain-refused, Account-refused, Standing-refused, Lead-refused, Write-refused, Start-refused, Start-of-numbers-refused}
 
 and-one : (b : Bool) → (b && true) ≡ b
 and-one true = refl
@@ -89,11 +89,11 @@ chain-by-value most room s p names old v one as-many =
     (true-and _ _ (eq-eqb (length old) 1 one) (eq-eqb (length names) (roomOf (stateWords s)) (as-many ∙ sym full)))
 
 pub account-by-value : Account-by-value
-unfolding accountTold
+unfolding accountExported
 account-by-value most room s p old v two = on-words most room s (eqb (length old) 2) _ _ v (eq-eqb (length old) 2 two)
 
 pub standing-by-value : Standing-by-value
-unfolding standingTold
+unfolding standingExported
 standing-by-value most room s old v two = on-words most room s (eqb (length old) 2) _ _ v (eq-eqb (length old) 2 two)
 
 pub lead-by-value : Lead-by-value
@@ -132,7 +132,7 @@ module _ (most room : ℕ) where
   one-call s slot old v two = rw (slot-by-value most room s old v two)
 
 pub in-a-row : In-a-row
-unfolding end answers lastTold
+unfolding end answers lastOutput
 in-a-row most room s old [] v two = (refl, refl)
 in-a-row most room s old (c ∷ calls) v two =
     let a = called room s c .answer in
@@ -205,7 +205,7 @@ start-of-numbers-shaped room numbers first = start-of room (numbersTable room nu
 -- it was carried out, or turned down by a refusal of document 01's, and then all stands
 pub data Ends (room outcome : ℕ) (Stands : Type 0) : Type 0 where
   went : outcome ≡ 0 → Ends room outcome Stands
-  turned : (r : Refusal) → ToldOf ofAnyCall room r → outcome ≡ refusalCode r → Stands → Ends room outcome Stands
+  turned : (r : Refusal) → AmongRefusals ofAnyCall room r → outcome ≡ refusalCode r → Stands → Ends room outcome Stands
 
 module _ {room outcome : ℕ} {Stands : Type 0} where
   pub all-stands : Ends room outcome Stands → Refused outcome → Stands
@@ -218,7 +218,7 @@ module _ {room outcome : ℕ} {Stands : Type 0} where
 
 -- a table's bytes, written
 pub written-ends : (room : ℕ) (t : Table) (buffer old : List ℕ)
-    → let d = writeTold old (writing.writeTable room t buffer) in Ends room (d .outcome) ((d .buffer ≡ buffer) × (d .answer ≡ old))
+    → let d = writeOutput old (writing.writeTable room t buffer) in Ends room (d .outcome) ((d .buffer ≡ buffer) × (d .answer ≡ old))
 unfolding writing.writeTable
 written-ends room t buffer old = by (writing.writeVerdict room t (length buffer)) (λ r e. table-any (write-names-below room t buffer r e))
   where
@@ -227,8 +227,8 @@ written-ends room t buffer old = by (writing.writeVerdict room t (length buffer)
         resolve v (record { answer = writing.wrote (length (writing.tableBytes t)); buffer = writtenOver (writing.tableBytes t) buffer })
         (λ r. record { answer = writing.refused r; buffer = buffer })
 
-    by : (v : Verdict) → ((r : Refusal) → made v .answer ≡ writing.refused r → ToldOf ofAnyCall room r)
-        → let d = writeTold old (made v) in Ends room (d .outcome) ((d .buffer ≡ buffer) × (d .answer ≡ old))
+    by : (v : Verdict) → ((r : Refusal) → made v .answer ≡ writing.refused r → AmongRefusals ofAnyCall room r)
+        → let d = writeOutput old (made v) in Ends room (d .outcome) ((d .buffer ≡ buffer) × (d .answer ≡ old))
     by faultless names = went refl
     by (fault r) names = turned r (names r refl) refl (refl, refl)
 
@@ -237,7 +237,7 @@ module _ (room : ℕ) (s : State) where
   abbrev Stands : Result State Answer → Type 0
   Stands r = (r .state ≡ s) × ((old : List ℕ) → slotWords old (r .answer) ≡ old)
 
-  outcome-ends : (v : Verdict) (c : Call) → ((r : Refusal) → outcome v s c .answer ≡ refused r → ToldOf ofAnyCall room r)
+  outcome-ends : (v : Verdict) (c : Call) → ((r : Refusal) → outcome v s c .answer ≡ refused r → AmongRefusals ofAnyCall room r)
       → Ends room (answerCode (outcome v s c .answer)) (Stands (outcome v s c))
   unfolding done
   outcome-ends faultless (post p count) t = went refl
@@ -261,49 +261,49 @@ module _ (room : ℕ) (s : State) where
           resolve v (record { state = slotsState (length log) s; answer = accepted; log = slotsLog (length log) s })
           (λ r. record { state = s; answer = refused r; log = log })
 
-      by : (v : Verdict) → ((r : Refusal) → made v .answer ≡ refused r → ToldOf ofAnyCall room r)
+      by : (v : Verdict) → ((r : Refusal) → made v .answer ≡ refused r → AmongRefusals ofAnyCall room r)
           → Ends room (answerCode (made v .answer)) ((made v .state ≡ s) × (made v .log ≡ log))
       by faultless t = went refl
       by (fault r) t = turned r (t r refl) refl (refl, refl)
 
-  figures-ends : (p j : ℕ) (old : List ℕ) → let d = figuresTold old (asked.figures room s p j) in Ends room (d .outcome) (d .answer ≡ old)
+  figures-ends : (p j : ℕ) (old : List ℕ) → let d = figuresOutput old (asked.figures room s p j) in Ends room (d .outcome) (d .answer ≡ old)
   figures-ends p j old = by (asked.figures room s p j) (λ r e. state-any (figures-name-below room s p j r e))
     where
-      by : (a : asked.FiguresAnswer) → ((r : Refusal) → a ≡ asked.refused r → ToldOf ofAnyCall room r) → Ends room (figuresTold old a .outcome) (figuresTold old a .answer ≡ old)
+      by : (a : asked.FiguresAnswer) → ((r : Refusal) → a ≡ asked.refused r → AmongRefusals ofAnyCall room r) → Ends room (figuresOutput old a .outcome) (figuresOutput old a .answer ≡ old)
       by (asked.figured wait finish) t = went refl
       by (asked.refused r) t = turned r (t r refl) refl refl
 
-  chain-ends : (p : ℕ) (names old : List ℕ) → let d = chainTold old (chains.chain room s p names) in Ends room (d .outcome) (d .answer ≡ old)
+  chain-ends : (p : ℕ) (names old : List ℕ) → let d = chainOutput old (chains.chain room s p names) in Ends room (d .outcome) (d .answer ≡ old)
   chain-ends p names old = by (chains.chain room s p names) (λ r e. chain-any (chains-name-below room s p names r e))
     where
-      by : (a : chains.ChainAnswer) → ((r : Refusal) → a ≡ chains.refused r → ToldOf ofAnyCall room r) → Ends room (chainTold old a .outcome) (chainTold old a .answer ≡ old)
+      by : (a : chains.ChainAnswer) → ((r : Refusal) → a ≡ chains.refused r → AmongRefusals ofAnyCall room r) → Ends room (chainOutput old a .outcome) (chainOutput old a .answer ≡ old)
       by (chains.figured figure) t = went refl
       by (chains.refused r) t = turned r (t r refl) refl refl
 
-  account-ends : (p : ℕ) (old : List ℕ) → let d = lookTold old (look.accountAsked room s p) in Ends room (d .outcome) (d .answer ≡ old)
+  account-ends : (p : ℕ) (old : List ℕ) → let d = lookOutput old (look.accountAsked room s p) in Ends room (d .outcome) (d .answer ≡ old)
   account-ends p old = by (look.accountAsked room s p) (λ r e. state-any (looks-name-below room s p r e))
     where
-      by : (a : look.Told Account) → ((r : Refusal) → a ≡ look.refused r → ToldOf ofAnyCall room r) → Ends room (lookTold old a .outcome) (lookTold old a .answer ≡ old)
-      by (look.told x) t = went refl
+      by : (a : look.Looked Account) → ((r : Refusal) → a ≡ look.refused r → AmongRefusals ofAnyCall room r) → Ends room (lookOutput old a .outcome) (lookOutput old a .answer ≡ old)
+      by (look.looked x) t = went refl
       by (look.refused r) t = turned r (t r refl) refl refl
 
   standing-ends : (old : List ℕ) → let d = stands old (look.standing room s) in Ends room (d .outcome) (d .answer ≡ old)
   standing-ends old = by (look.standing room s) (λ r e. state-any (standings-name-below room s r e))
     where
-      by : (a : look.Told look.Standing) → ((r : Refusal) → a ≡ look.refused r → ToldOf ofAnyCall room r) → Ends room (stands old a .outcome) (stands old a .answer ≡ old)
-      by (look.told x) t = went refl
+      by : (a : look.Looked look.Standing) → ((r : Refusal) → a ≡ look.refused r → AmongRefusals ofAnyCall room r) → Ends room (stands old a .outcome) (stands old a .answer ≡ old)
+      by (look.looked x) t = went refl
       by (look.refused r) t = turned r (t r refl) refl refl
 
-  lead-ends : (p : ℕ) (log : List ℕ) (old : List ℤ) → let d = leadTold old (leads.leadAsked room s p log) in Ends room (d .outcome) (d .answer ≡ old)
+  lead-ends : (p : ℕ) (log : List ℕ) (old : List ℤ) → let d = leadOutput old (leads.leadAsked room s p log) in Ends room (d .outcome) (d .answer ≡ old)
   lead-ends p log old = by (leads.leadAsked room s p log) (λ r e. state-any (leads-name-below room s p log r e))
     where
-      by : (a : leads.LeadAnswer) → ((r : Refusal) → a ≡ leads.refused r → ToldOf ofAnyCall room r) → Ends room (leadTold old a .outcome) (leadTold old a .answer ≡ old)
+      by : (a : leads.LeadAnswer) → ((r : Refusal) → a ≡ leads.refused r → AmongRefusals ofAnyCall room r) → Ends room (leadOutput old a .outcome) (leadOutput old a .answer ≡ old)
       by (leads.lead x) t = went refl
       by (leads.refused r) t = turned r (t r refl) refl refl
 
   abbrev writing-call : (buffer old : List ℕ) → Wrote
   writing-call buffer old =
-      pick (sound room s) (writeTold old (writing.writeTable room (s .table) buffer))
+      pick (sound room s) (writeOutput old (writing.writeTable room (s .table) buffer))
       (record { buffer = buffer; answer = old; outcome = refusalCode (refusal 23) })
 
   write-ends : (buffer old : List ℕ) → let d = writing-call buffer old in Ends room (d .outcome) ((d .buffer ≡ buffer) × (d .answer ≡ old))
@@ -369,13 +369,13 @@ chain-refused most words p names old =
     (λ long. all-stands (chain-ends (roomOf words) (stateOf words) p names old))
 
 pub account-refused : Account-refused
-unfolding accountTold
+unfolding accountExported
 account-refused most words p old =
     left (λ (x : Figured). x .outcome) most words (eqb (length old) 2) _ _ (λ (x : Figured). x .answer ≡ old) refl
     (λ long. all-stands (account-ends (roomOf words) (stateOf words) p old))
 
 pub standing-refused : Standing-refused
-unfolding standingTold
+unfolding standingExported
 standing-refused most words old =
     left (λ (x : Figured). x .outcome) most words (eqb (length old) 2) _ _ (λ (x : Figured). x .answer ≡ old) refl
     (λ long. all-stands (standing-ends (roomOf words) (stateOf words) old))
@@ -401,7 +401,7 @@ start-ends room t first = by (startVerdict room t first) (λ r e. table-any (tab
     made : Verdict → Result State Answer
     made v = resolve v (record { state = opening t first; answer = accepted }) (turnedDown room)
 
-    by : (v : Verdict) → ((r : Refusal) → made v .answer ≡ refused r → ToldOf ofAnyCall room r) → Ends room (answerCode (made v .answer)) (made v .state ≡ noState room)
+    by : (v : Verdict) → ((r : Refusal) → made v .answer ≡ refused r → AmongRefusals ofAnyCall room r) → Ends room (answerCode (made v .answer)) (made v .state ≡ noState room)
     by faultless t = went refl
     by (fault r) t = turned r (t r refl) refl refl
 
@@ -413,7 +413,7 @@ begun-ends room bytes first = by (readTable room bytes .answer) (λ r e. table-a
     goes-on : Result State Answer
     goes-on = start room (readTable room bytes .table) first
 
-    by : (a : Answer) → ((r : Refusal) → unless a (turnedDown room) goes-on .answer ≡ refused r → ToldOf ofAnyCall room r)
+    by : (a : Answer) → ((r : Refusal) → unless a (turnedDown room) goes-on .answer ≡ refused r → AmongRefusals ofAnyCall room r)
         → Ends room (answerCode (unless a (turnedDown room) goes-on .answer)) (unless a (turnedDown room) goes-on .state ≡ noState room)
     by accepted t = start-ends room (readTable room bytes .table) first
     by (granted stamp p) t = start-ends room (readTable room bytes .table) first
@@ -465,7 +465,7 @@ module _ (most : ℕ) (words : List ℕ) where
   words-only outcome e = rw (and-one (rightLength most words)) at e
 
   lengths : Lengths most words
-  unfolding started startedOf posted slotted ran figured chained accountTold standingTold led wrote
+  unfolding started startedOf posted slotted ran figured chained accountExported standingExported led wrote
   lengths = record {
     start = λ bytes first. leaves-255 most words (rightLength most words) _ (begun-ends room bytes first);
     numbers = λ numbers first. leaves-255 most words (rightLength most words && rightNumbers room numbers) _ (start-ends room (numbersTable room numbers) first);
@@ -505,7 +505,7 @@ module _ (most : ℕ) (words : List ℕ) (long : rightLength most words ≡ true
   place-23 p = rw broken
 
   all-23 : Broken most words
-  unfolding posted slotted ran figured chained accountTold standingTold led wrote asked.figures asked.figuresVerdict chains.chain chains.chainVerdict look.accountAsked look.standing leads.leadAsked leads.leadVerdict gate then
+  unfolding posted slotted ran figured chained accountExported standingExported led wrote asked.figures asked.figuresVerdict chains.chain chains.chainVerdict look.accountAsked look.standing leads.leadAsked leads.leadVerdict gate then
   all-23 = record {
     post = λ p count. ap (λ (x : Stated). x .outcome) (on-call most words true _ _ long refl) ∙ call-23 (post p count);
     slot = λ old two. ap (λ (x : Slotted). x .outcome) (on-call most words (eqb (length old) 2) _ _ long (eq-eqb (length old) 2 two)) ∙ call-23 slot;

@@ -34,7 +34,7 @@ use Rattle.ordered_tables.proofs.Bytes.{read-is-ordered, as-many-bytes, wrote-o
 use Rattle.ordered_tables.proofs.Promised.{ordered-line-is-promised}
 use Rattle.outcomes.specs.Outcomes.{wrongLength}
 use Rattle.outcomes.proofs.Places.{order-any, code-apart, orders-name-below}
-use Rattle.justrave.specs.Exported.{Wrote, writeTold, started, ordered}
+use Rattle.justrave.specs.Exported.{Wrote, writeOutput, started, ordered}
 use Rattle.on_words.specs.Ordered.{Order-refused, Order-255, Order-accepted, Ordered-bytes-begin}
 use Rattle.on_words.proofs.Claims.{Ends, turned, all-stands, never-255, written-ends}
 use Rattle.on_words.proofs.Begins.{bytes-begin-demand-3, accepted-bytes-tell-0}
@@ -44,7 +44,7 @@ use Rattle.on_words.proofs.LongerStart.{table-longer}
 
 module _ (most : ℕ) (bytes buffer old : List ℕ) where
   abbrev told : Wrote
-  told = writeTold old (orderBytes most bytes buffer)
+  told = writeOutput old (orderBytes most bytes buffer)
 
   order-ends : Ends most (told .outcome) ((told .buffer ≡ buffer) × (told .answer ≡ old))
   unfolding orderBytes

@@ -23,7 +23,7 @@ use Rattle.layout.specs.Numbers.{rightNumbers, numbersTable}
 use Rattle.layout.proofs.RoundTrip.{right, words-shaped, state-written-back, words-read-back, length-state}
 use Rattle.layout.proofs.Stores.{same-room, right-stands}
 use Rattle.outcomes.specs.Outcomes.{refusalCode}
-use Rattle.justrave.specs.Exported.{onState, posted, slotted, ran, leaves, started, startedOf, Figured, figured, chainTold, chained, accountTold, standingTold, Led, led, Wrote, wrote}
+use Rattle.justrave.specs.Exported.{onState, posted, slotted, ran, leaves, started, startedOf, Figured, figured, chainOutput, chained, accountExported, standingExported, Led, led, Wrote, wrote}
 use Rattle.on_words.specs.Claims.{Lent, lentCall}
 use Rattle.on_words.specs.Room.{more, Unless-2, stated-more, slotted-more, ran-more, Alike, Any-room, Any-room-in-a-row}
 use Rattle.on_words.proofs.Claims.{numbers-rows, start-shaped, start-of-numbers-shaped}
@@ -83,7 +83,7 @@ module _ (old-most most extra : ℕ) (words : List ℕ) (long : rightLength old-
       (λ q. rw q (λ h. refl)))
 
   all-alike : Alike old-most most extra words
-  unfolding started startedOf posted slotted ran figured chained accountTold standingTold led wrote
+  unfolding started startedOf posted slotted ran figured chained accountExported standingExported led wrote
   all-alike = record {
     post = λ p count. on-more (stated-more extra) true _ _ _ refl
         (rw (same-call room extra held shape (post p count), longer-words room extra (called room held (post p count) .state) (call-shaped room held (post p count) shape)));
@@ -96,7 +96,7 @@ module _ (old-most most extra : ℕ) (words : List ℕ) (long : rightLength old-
         (λ q h. rw (same-numbers room extra numbers (and-true (rightLength old-most words) _ q .1)) (same-start room extra (numbersTable room numbers) (numbers-rows room numbers) first h)));
     figures = λ p j old. on-more (λ (x : Figured). x) (eqb (length old) 2) _ _ _ refl (rw (same-figures room extra held shape p j));
     chain = λ p names past old more-names. on-more-beside (λ (x : Figured). x) (eqb (length old) 1 && eqb (length names) room) _ _ _ _ _ (ap (λ b. eqb (length old) 1 && b) (same-many names past more-names)) refl
-        (λ q. ap (chainTold old) (same-chain-named room extra held shape p names past (eqb-true (length names) room (and-true (eqb (length old) 1) _ q .1))));
+        (λ q. ap (chainOutput old) (same-chain-named room extra held shape p names past (eqb-true (length names) room (and-true (eqb (length old) 1) _ q .1))));
     account = λ p old. on-more (λ (x : Figured). x) (eqb (length old) 2) _ _ _ refl (rw (same-look room extra held shape p));
     standing = λ old. on-more (λ (x : Figured). x) (eqb (length old) 2) _ _ _ refl (rw (same-standing room extra held shape));
     lead = λ p log old. on-more (λ (x : Led). x) (eqb (length old) 1) _ _ _ refl (rw (same-lead room extra held shape p log));

@@ -32,7 +32,7 @@ use Rattle.asking.specs.Look.{accountAsked, standing}
 use Rattle.ordering.specs.Order.{needHolds, lastHolding, filledUp}
 use Rattle.ordered_bytes.specs.OrderBytes.{listedVerdict, orderRead, orderBytes}
 use Rattle.outcomes.specs.Outcomes.{refusalCode}
-use Rattle.justrave.specs.Exported.{onState, posted, slotted, ran, leaves, started, startedOf, carriedOver, figured, chained, accountTold, standingTold, led, wrote, ordered}
+use Rattle.justrave.specs.Exported.{onState, posted, slotted, ran, leaves, started, startedOf, carriedOver, figured, chained, accountExported, standingExported, led, wrote, ordered}
 use Rattle.on_words.specs.Rows.{wordsIn, startRows, numberRows, carryRows, postRows, slotRows, runRows, askedRows, chainRows, writeRows, lookRows, roomRows, orderRows, wordsThrice, numbersThrice, needRows, lengthRows, Pass, All-pass}
 
 start-pass : Pass startRows
@@ -72,11 +72,11 @@ unfolding roomOf rightLength placesFrom wordsState stateWords joined paired refu
 write-pass = refl
 
 look-pass : Pass lookRows
-unfolding roomOf rightLength placesFrom wordsState stateWords joined paired refusalCode wordsIn total every gate then heldTo fieldsVerdict eachPlace tailVerdict rateSumVerdict needFits needFitsVerdict offeredRowVerdict verdictBy upTo accountsHold sound placeVerdict accountAsked standing onState accountTold standingTold lookRows
+unfolding roomOf rightLength placesFrom wordsState stateWords joined paired refusalCode wordsIn total every gate then heldTo fieldsVerdict eachPlace tailVerdict rateSumVerdict needFits needFitsVerdict offeredRowVerdict verdictBy upTo accountsHold sound placeVerdict accountAsked standing onState accountExported standingExported lookRows
 look-pass = refl
 
 room-pass : Pass roomRows
-unfolding roomOf rightLength placesFrom wordsState stateWords joined paired refusalCode wordsIn total every gate then heldTo fieldsVerdict eachPlace tailVerdict rateSumVerdict needFits needFitsVerdict offeredRowVerdict verdictBy roundedUp finish finishVerdict admissionVerdict tableOf writtenOver opening noState startVerdict start leaves lastGroup combined laterGroups numberOf next fieldRead rowFieldsRead rowRead itemsRead placesBy numbersBy lastVerdict settled readTable begun started numbersTable startedOf upTo accountsHold sound eligible later firstEligible served passed after grantOf advanced withCount withPost done ruleVerdict called inputVerdict slotsState slotsLog slotsVerdict runVerdict run placeVerdict figuresVerdict figures accountAsked standing onState posted slotted ran figured accountTold standingTold roomRows
+unfolding roomOf rightLength placesFrom wordsState stateWords joined paired refusalCode wordsIn total every gate then heldTo fieldsVerdict eachPlace tailVerdict rateSumVerdict needFits needFitsVerdict offeredRowVerdict verdictBy roundedUp finish finishVerdict admissionVerdict tableOf writtenOver opening noState startVerdict start leaves lastGroup combined laterGroups numberOf next fieldRead rowFieldsRead rowRead itemsRead placesBy numbersBy lastVerdict settled readTable begun started numbersTable startedOf upTo accountsHold sound eligible later firstEligible served passed after grantOf advanced withCount withPost done ruleVerdict called inputVerdict slotsState slotsLog slotsVerdict runVerdict run placeVerdict figuresVerdict figures accountAsked standing onState posted slotted ran figured accountExported standingExported roomRows
 room-pass = refl
 
 order-pass : Pass orderRows
@@ -84,7 +84,7 @@ unfolding joined refusalCode total every gate then heldTo fieldsVerdict eachPlac
 order-pass = refl
 
 need-pass : Pass needRows
-unfolding roomOf rightLength placesFrom wordsState stateWords joined paired refusalCode wordsIn total every gate then heldTo fieldsVerdict eachPlace tailVerdict rateSumVerdict needFits needFitsVerdict offeredRowVerdict verdictBy roundedUp finish finishVerdict admissionVerdict tableOf writtenOver opening noState startVerdict start leaves lastGroup combined laterGroups numberOf next fieldRead rowFieldsRead rowRead itemsRead placesBy numbersBy lastVerdict settled readTable begun started numbersTable startedOf upTo accountsHold sound oldRoomOf oldRightLength fitsInto oldWordsState carry carriedOver withCount withPost done ruleVerdict called onState posted eligible later firstEligible served passed after grantOf advanced slotted inputVerdict slotsState slotsLog slotsVerdict runVerdict run ran placeVerdict figuresVerdict figures leadOf leadVerdict leadAsked figured led named follows chainTo chainFigure nameVerdict circleVerdict followingVerdict chainVerdict chain chained groupsOf numberBytes tableNumbers tableBytes writeVerdict writeTable wrote accountAsked standing accountTold standingTold bind without needHolds lastHolding filledUp listedVerdict orderRead orderBytes ordered wordsThrice numbersThrice needRows
+unfolding roomOf rightLength placesFrom wordsState stateWords joined paired refusalCode wordsIn total every gate then heldTo fieldsVerdict eachPlace tailVerdict rateSumVerdict needFits needFitsVerdict offeredRowVerdict verdictBy roundedUp finish finishVerdict admissionVerdict tableOf writtenOver opening noState startVerdict start leaves lastGroup combined laterGroups numberOf next fieldRead rowFieldsRead rowRead itemsRead placesBy numbersBy lastVerdict settled readTable begun started numbersTable startedOf upTo accountsHold sound oldRoomOf oldRightLength fitsInto oldWordsState carry carriedOver withCount withPost done ruleVerdict called onState posted eligible later firstEligible served passed after grantOf advanced slotted inputVerdict slotsState slotsLog slotsVerdict runVerdict run ran placeVerdict figuresVerdict figures leadOf leadVerdict leadAsked figured led named follows chainTo chainFigure nameVerdict circleVerdict followingVerdict chainVerdict chain chained groupsOf numberBytes tableNumbers tableBytes writeVerdict writeTable wrote accountAsked standing accountExported standingExported bind without needHolds lastHolding filledUp listedVerdict orderRead orderBytes ordered wordsThrice numbersThrice needRows
 need-pass = refl
 
 length-pass : Pass lengthRows

@@ -26,7 +26,7 @@ use Rattle.layout.specs.Numbers.{allNumbers, numbersTable, rightNumbers}
 use Rattle.starts.specs.Starts.{begun}
 use Rattle.asking.specs.Look as look
 use Rattle.outcomes.specs.Outcomes.{answerCode, wrongLength}
-use Rattle.justrave.specs.Exported.{Stated, stated, posted, slotWords, slotStated, slotted, runStated, ran, started, startedOf, figuresTold, figured, chainTold, chained, lookTold, accountTold, stands, standingTold, leadTold, led, writeTold, wrote}
+use Rattle.justrave.specs.Exported.{Stated, stated, posted, slotWords, slotStated, slotted, runStated, ran, started, startedOf, figuresOutput, figured, chainOutput, chained, lookOutput, accountExported, stands, standingExported, leadOutput, led, writeOutput, wrote}
 
 -- a state with room for so many places, 1 to the largest N
 pub record Fits (most room : ℕ) (s : State) : Type 0 where
@@ -65,34 +65,34 @@ Run-by-value = (most room : ℕ) (s : State) (log : List ℕ) → Fits most room
 abbrev pub Figures-by-value : Type 0
 Figures-by-value =
     (most room : ℕ) (s : State) (p j : ℕ) (old : List ℕ) → Fits most room s → length old ≡ 2
-    → figured most (stateWords s) p j old ≡ figuresTold old (asked.figures room s p j)
+    → figured most (stateWords s) p j old ≡ figuresOutput old (asked.figures room s p j)
 
 -- as many names are lent as the words have room for places
 abbrev pub Chain-by-value : Type 0
 Chain-by-value =
     (most room : ℕ) (s : State) (p : ℕ) (names old : List ℕ) → Fits most room s → length old ≡ 1 → length names ≡ room
-    → chained most (stateWords s) p names old ≡ chainTold old (chains.chain room s p names)
+    → chained most (stateWords s) p names old ≡ chainOutput old (chains.chain room s p names)
 
 abbrev pub Account-by-value : Type 0
 Account-by-value =
     (most room : ℕ) (s : State) (p : ℕ) (old : List ℕ) → Fits most room s → length old ≡ 2
-    → accountTold most (stateWords s) p old ≡ lookTold old (look.accountAsked room s p)
+    → accountExported most (stateWords s) p old ≡ lookOutput old (look.accountAsked room s p)
 
 abbrev pub Standing-by-value : Type 0
 Standing-by-value =
     (most room : ℕ) (s : State) (old : List ℕ) → Fits most room s → length old ≡ 2
-    → standingTold most (stateWords s) old ≡ stands old (look.standing room s)
+    → standingExported most (stateWords s) old ≡ stands old (look.standing room s)
 
 abbrev pub Lead-by-value : Type 0
 Lead-by-value =
     (most room : ℕ) (s : State) (p : ℕ) (log : List ℕ) (old : List ℤ) → Fits most room s → length old ≡ 1
-    → led most (stateWords s) p log old ≡ leadTold old (leads.leadAsked room s p log)
+    → led most (stateWords s) p log old ≡ leadOutput old (leads.leadAsked room s p log)
 
 -- the writer takes a table and no state, so that 23 is the boundary's own test here
 abbrev pub Write-by-value : Type 0
 Write-by-value =
     (most room : ℕ) (s : State) (buffer old : List ℕ) → Fits most room s → length old ≡ 1 → sound room s ≡ true
-    → wrote most (stateWords s) buffer old ≡ writeTold old (writing.writeTable room (s .table) buffer)
+    → wrote most (stateWords s) buffer old ≡ writeOutput old (writing.writeTable room (s .table) buffer)
 
 -- ---- calls in a row
 
@@ -111,9 +111,9 @@ lentCall most lent slot =
     record { state = record { words = r .words; answer = r .answer }; answer = r .outcome }
 
 -- the lent answer after calls by value that answered so: each slot that was not refused writes over it
-unfoldable pub lastTold : (old : List ℕ) → List Answer → List ℕ
-lastTold old [] = old
-lastTold old (a ∷ rest) = lastTold (slotWords old a) rest
+unfoldable pub lastOutput : (old : List ℕ) → List Answer → List ℕ
+lastOutput old [] = old
+lastOutput old (a ∷ rest) = lastOutput (slotWords old a) rest
 
 -- Any list of posts and slots, refused ones too: the words at the end are those of the state at the end, each outcome is the answer's, and
 -- the lent answer is what the last slot told. A run is so many slots (guarantees, RunSlots).
@@ -122,7 +122,7 @@ In-a-row =
     (most room : ℕ) (s : State) (old : List ℕ) (calls : List Call) → Fits most room s → length old ≡ 2
     → let lent : Lent = record { words = stateWords s; answer = old } in
     let answered = answers (called room) s calls in
-    (end (lentCall most) lent calls ≡ record { words = stateWords (end (called room) s calls); answer = lastTold old answered })
+    (end (lentCall most) lent calls ≡ record { words = stateWords (end (called room) s calls); answer = lastOutput old answered })
     × (answers (lentCall most) lent calls ≡ map answerCode answered)
 
 -- the state whose words a start leaves, whatever the bytes or the numbers, is one that the claims above hold for
@@ -148,8 +148,8 @@ pub record Lengths (most : ℕ) (words : List ℕ) : Type 0 where
   pub figures : (p j : ℕ) (old : List ℕ) → Exactly-255 (rightLength most words && eqb (length old) 2) (figured most words p j old .outcome)
   pub chain : (p : ℕ) (names old : List ℕ)
       → Exactly-255 (rightLength most words && (eqb (length old) 1 && eqb (length names) (roomOf words))) (chained most words p names old .outcome)
-  pub account : (p : ℕ) (old : List ℕ) → Exactly-255 (rightLength most words && eqb (length old) 2) (accountTold most words p old .outcome)
-  pub standing : (old : List ℕ) → Exactly-255 (rightLength most words && eqb (length old) 2) (standingTold most words old .outcome)
+  pub account : (p : ℕ) (old : List ℕ) → Exactly-255 (rightLength most words && eqb (length old) 2) (accountExported most words p old .outcome)
+  pub standing : (old : List ℕ) → Exactly-255 (rightLength most words && eqb (length old) 2) (standingExported most words old .outcome)
   pub lead : (p : ℕ) (log : List ℕ) (old : List ℤ) → Exactly-255 (rightLength most words && eqb (length old) 1) (led most words p log old .outcome)
   pub write : (buffer old : List ℕ) → Exactly-255 (rightLength most words && eqb (length old) 1) (wrote most words buffer old .outcome)
 
@@ -163,8 +163,8 @@ pub record Broken (most : ℕ) (words : List ℕ) : Type 0 where
   pub run : (log : List ℕ) → ran most words log .outcome ≡ 23
   pub figures : (p j : ℕ) (old : List ℕ) → length old ≡ 2 → figured most words p j old .outcome ≡ 23
   pub chain : (p : ℕ) (names old : List ℕ) → length old ≡ 1 → length names ≡ roomOf words → chained most words p names old .outcome ≡ 23
-  pub account : (p : ℕ) (old : List ℕ) → length old ≡ 2 → accountTold most words p old .outcome ≡ 23
-  pub standing : (old : List ℕ) → length old ≡ 2 → standingTold most words old .outcome ≡ 23
+  pub account : (p : ℕ) (old : List ℕ) → length old ≡ 2 → accountExported most words p old .outcome ≡ 23
+  pub standing : (old : List ℕ) → length old ≡ 2 → standingExported most words old .outcome ≡ 23
   pub lead : (p : ℕ) (log : List ℕ) (old : List ℤ) → length old ≡ 1 → led most words p log old .outcome ≡ 23
   pub write : (buffer old : List ℕ) → length old ≡ 1 → wrote most words buffer old .outcome ≡ 23
 
@@ -203,12 +203,12 @@ Chain-refused =
 
 abbrev pub Account-refused : Type 0
 Account-refused =
-    (most : ℕ) (words : List ℕ) (p : ℕ) (old : List ℕ) → let r = accountTold most words p old in
+    (most : ℕ) (words : List ℕ) (p : ℕ) (old : List ℕ) → let r = accountExported most words p old in
     Refused (r .outcome) → r .answer ≡ old
 
 abbrev pub Standing-refused : Type 0
 Standing-refused =
-    (most : ℕ) (words old : List ℕ) → let r = standingTold most words old in
+    (most : ℕ) (words old : List ℕ) → let r = standingExported most words old in
     Refused (r .outcome) → r .answer ≡ old
 
 abbrev pub Lead-refused : Type 0

@@ -13,7 +13,7 @@ use lib.ListN.{length, replicate}
 use Rattle.lists.specs.Runs.{end, answers}
 use Rattle.rule.specs.Calls.{Call}
 use Rattle.layout.specs.Words.{roomOf, rightLength}
-use Rattle.justrave.specs.Exported.{Stated, posted, Slotted, slotted, Ran, ran, started, startedOf, figured, chained, accountTold, standingTold, led, wrote}
+use Rattle.justrave.specs.Exported.{Stated, posted, Slotted, slotted, Ran, ran, started, startedOf, figured, chained, accountExported, standingExported, led, wrote}
 use Rattle.on_words.specs.Claims.{Lent, lentCall}
 
 -- the words with room for so many places more
@@ -51,8 +51,8 @@ pub record Alike (old-most most extra : ℕ) (words : List ℕ) : Type 0 where
   pub figures : (p j : ℕ) (old : List ℕ) → figured most (more extra words) p j old ≡ figured old-most words p j old
   -- each further place has a name, and whatever these are makes no difference
   pub chain : (p : ℕ) (names past old : List ℕ) → length past ≡ extra → chained most (more extra words) p (names ++ past) old ≡ chained old-most words p names old
-  pub account : (p : ℕ) (old : List ℕ) → accountTold most (more extra words) p old ≡ accountTold old-most words p old
-  pub standing : (old : List ℕ) → standingTold most (more extra words) old ≡ standingTold old-most words old
+  pub account : (p : ℕ) (old : List ℕ) → accountExported most (more extra words) p old ≡ accountExported old-most words p old
+  pub standing : (old : List ℕ) → standingExported most (more extra words) old ≡ standingExported old-most words old
   pub lead : (p : ℕ) (log : List ℕ) (old : List ℤ) → led most (more extra words) p log old ≡ led old-most words p log old
   pub write : (buffer old : List ℕ) → wrote most (more extra words) buffer old ≡ wrote old-most words buffer old
 

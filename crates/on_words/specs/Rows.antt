@@ -8,7 +8,7 @@ use lib.IntN.{ℤ, pos, negsuc}
 use lib.ListN.{replicate}
 use Rattle.terms.specs.Limits.{maxPlaces, oldPlaces, maxSlot}
 use Rattle.layout.specs.Words.{wordCount}
-use Rattle.justrave.specs.Exported.{sizeOf, Stated, started, startedOf, carriedOver, posted, Slotted, slotted, Ran, ran, Figured, figured, chained, accountTold, standingTold, Led, led, Wrote, wrote, ordered}
+use Rattle.justrave.specs.Exported.{sizeOf, Stated, started, startedOf, carriedOver, posted, Slotted, slotted, Ran, ran, Figured, figured, chained, accountExported, standingExported, Led, led, Wrote, wrote, ordered}
 
 -- ---- words
 
@@ -126,13 +126,13 @@ chaining words p names old answer o = record {
 
 abbrev pub looking : (words : List ℕ) (place : ℕ) (old : List ℕ) → (answer : List ℕ) (outcome : ℕ) → Row
 looking words p old answer o = record {
-  asked = figured-as (accountTold maxPlaces words p old);
+  asked = figured-as (accountExported maxPlaces words p old);
   written = figured-as (record { answer = answer; outcome = o });
 }
 
 abbrev pub standing : (words old : List ℕ) → (answer : List ℕ) (outcome : ℕ) → Row
 standing words old answer o = record {
-  asked = figured-as (standingTold maxPlaces words old);
+  asked = figured-as (standingExported maxPlaces words old);
   written = figured-as (record { answer = answer; outcome = o });
 }
 

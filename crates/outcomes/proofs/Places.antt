@@ -51,22 +51,22 @@ use Rattle.ordering.specs.Order.{found, orderOf}
 use Rattle.ordered_bytes.specs.OrderBytes.{listedVerdict, orderRead, orderBytes}
 use Rattle.asking.specs.Look as look
 use Rattle.outcomes.specs.Outcomes.{placeCode, refusalCode}
-use Rattle.outcomes.specs.Places.{ofATable, ofAState, ofAnOrder, ofAChain, ofAnyCall, placed, ToldOf, Code-tells, Code-apart, Start-names-below, Table-start-names-below, Carry-names-below, Calls-name-below, Runs-name-below, Leads-name-below, Figures-name-below, Chains-name-below, Write-names-below, Orders-name-below, Looks-name-below, Standings-name-below}
+use Rattle.outcomes.specs.Places.{ofATable, ofAState, ofAnOrder, ofAChain, ofAnyCall, placed, AmongRefusals, Code-tells, Code-apart, Start-names-below, Table-start-names-below, Carry-names-below, Calls-name-below, Runs-name-below, Leads-name-below, Figures-name-below, Chains-name-below, Write-names-below, Orders-name-below, Looks-name-below, Standings-name-below}
 
 -- ---- refusals by their number
 
 module _ {numbers : ℕ → Bool} where
-  plain : (limit n : ℕ) → numbers n ≡ true → false ≡ placed n → ToldOf numbers limit (refusal n)
+  plain : (limit n : ℕ) → numbers n ≡ true → false ≡ placed n → AmongRefusals numbers limit (refusal n)
   plain limit n e none = record { number = e; names = none; origin = refl; place = tt }
 
-  at-place : (limit n p : ℕ) → numbers n ≡ true → true ≡ placed n → p < limit → ToldOf numbers limit (refusalAt n p)
+  at-place : (limit n p : ℕ) → numbers n ≡ true → true ≡ placed n → p < limit → AmongRefusals numbers limit (refusalAt n p)
   at-place limit n p e some h = record { number = e; names = some; origin = refl; place = h }
 
 -- a table's, a state's, an ordering's and a chain figure's are any call's
-pub table-any : {limit : ℕ} {r : Refusal} → ToldOf ofATable limit r → ToldOf ofAnyCall limit r
+pub table-any : {limit : ℕ} {r : Refusal} → AmongRefusals ofATable limit r → AmongRefusals ofAnyCall limit r
 table-any {limit} {r} t = record { number = rw (t .number); names = t .names; origin = t .origin; place = t .place }
 
-pub state-any : {limit : ℕ} {r : Refusal} → ToldOf ofAState limit r → ToldOf ofAnyCall limit r
+pub state-any : {limit : ℕ} {r : Refusal} → AmongRefusals ofAState limit r → AmongRefusals ofAnyCall limit r
 state-any {limit} {r} t = record {
   number = cases (ofATable (r .number)) (λ on. rw on) (λ off. rw (off, t .number));
   names = t .names;
@@ -74,7 +74,7 @@ state-any {limit} {r} t = record {
   place = t .place;
 }
 
-pub order-any : {limit : ℕ} {r : Refusal} → ToldOf ofAnOrder limit r → ToldOf ofAnyCall limit r
+pub order-any : {limit : ℕ} {r : Refusal} → AmongRefusals ofAnOrder limit r → AmongRefusals ofAnyCall limit r
 order-any {limit} {r} t = record {
   number = cases (ofATable (r .number)) (λ on. rw on) (λ off. cases (ofAState (r .number)) (λ on. rw (off, on)) (λ out. rw (off, out, t .number)));
   names = t .names;
@@ -82,7 +82,7 @@ order-any {limit} {r} t = record {
   place = t .place;
 }
 
-pub chain-any : {limit : ℕ} {r : Refusal} → ToldOf ofAChain limit r → ToldOf ofAnyCall limit r
+pub chain-any : {limit : ℕ} {r : Refusal} → AmongRefusals ofAChain limit r → AmongRefusals ofAnyCall limit r
 chain-any {limit} {r} t = record {
   number = cases (ofATable (r .number)) (λ on. rw on) (λ off. cases (ofAState (r .number)) (λ on. rw (off, on)) (λ out.
       cases (ofAnOrder (r .number)) (λ on. rw (off, out, on)) (λ none. rw (off, out, none) (t .number))));
@@ -195,7 +195,7 @@ pub record TableRefusals (limit : ℕ) (P : Refusal → Type 0) : Type 0 where
 
 -- so it is with numbers that these are among
 table-refusals : (numbers : ℕ → Bool) (limit : ℕ) → numbers 1 ≡ true → numbers 2 ≡ true → numbers 3 ≡ true → numbers 4 ≡ true → numbers 5 ≡ true → numbers 6 ≡ true
-    → numbers 8 ≡ true → numbers 9 ≡ true → numbers 17 ≡ true → TableRefusals limit (ToldOf numbers limit)
+    → numbers 8 ≡ true → numbers 9 ≡ true → numbers 17 ≡ true → TableRefusals limit (AmongRefusals numbers limit)
 table-refusals numbers limit one two three four five six eight nine seventeen = record {
   one = plain limit 1 one refl;
   two = plain limit 2 two refl;
@@ -244,19 +244,19 @@ module _ (limit : ℕ) (P : Refusal → Type 0) (holds : TableRefusals limit P) 
       (λ c. refuses-sum t))))
 
 module _ (limit : ℕ) where
-  of-a-table : TableRefusals limit (ToldOf ofATable limit)
+  of-a-table : TableRefusals limit (AmongRefusals ofATable limit)
   of-a-table = table-refusals ofATable limit refl refl refl refl refl refl refl refl refl
 
-  refuses-finishes : (t : Table) → t .count ≤ limit → Refuses (ToldOf ofATable limit) (finishesVerdict t)
+  refuses-finishes : (t : Table) → t .count ≤ limit → Refuses (AmongRefusals ofATable limit) (finishesVerdict t)
   unfolding finishVerdict
   refuses-finishes t h =
-      refuses-each (ToldOf ofATable limit) limit (finishVerdict (t .denominator) (requestorsOf t))
-      (λ p x few. refuses-gate (ToldOf ofATable limit) (refusalAt 7 p) (leb (finish (t .denominator) (requestorsOf t) p (x .need .0)) (x .within .0)) faultless (at-place limit 7 p refl refl few) (refuses-none (ToldOf ofATable limit)))
+      refuses-each (AmongRefusals ofATable limit) limit (finishVerdict (t .denominator) (requestorsOf t))
+      (λ p x few. refuses-gate (AmongRefusals ofATable limit) (refusalAt 7 p) (leb (finish (t .denominator) (requestorsOf t) p (x .need .0)) (x .within .0)) faultless (at-place limit 7 p refl refl few) (refuses-none (AmongRefusals ofATable limit)))
       0 (requestorsOf t) (few-rows limit (t .count) (t .requestors) h)
 
-  refuses-admission : (t : Table) → Refuses (ToldOf ofATable limit) (admissionVerdict limit t)
+  refuses-admission : (t : Table) → Refuses (AmongRefusals ofATable limit) (admissionVerdict limit t)
   unfolding admissionVerdict
-  refuses-admission t = refuses-then (ToldOf ofATable limit) (offeredVerdict limit t) (finishesVerdict t) (refuses-table limit (ToldOf ofATable limit) of-a-table t) (λ ok. refuses-finishes t (fair limit t (offered-passes limit t ok) .count-most))
+  refuses-admission t = refuses-then (AmongRefusals ofATable limit) (offeredVerdict limit t) (finishesVerdict t) (refuses-table limit (AmongRefusals ofATable limit) of-a-table t) (λ ok. refuses-finishes t (fair limit t (offered-passes limit t ok) .count-most))
 
 -- ---- along a reading
 
@@ -333,22 +333,22 @@ module _ (limit : ℕ) where
       omega (arith, taken .few)
 
   -- what a reading answers
-  refuses-settled : (x : Read Table) → ReadRefuses (ToldOf ofATable limit) x → ((t : Table) (rest : List ℕ) → x ≡ read t rest → t .count ≤ limit)
-      → (r : Refusal) → settled limit x .answer ≡ refused r → ToldOf ofATable limit r
+  refuses-settled : (x : Read Table) → ReadRefuses (AmongRefusals ofATable limit) x → ((t : Table) (rest : List ℕ) → x ≡ read t rest → t .count ≤ limit)
+      → (r : Refusal) → settled limit x .answer ≡ refused r → AmongRefusals ofATable limit r
   unfolding settled lastVerdict
   refuses-settled (stop q) s few r e = let same : q ≡ r = cc in rw same at (s q refl)
   refuses-settled (read t rest) s few r e =
-      let last = refuses-then (ToldOf ofATable limit) (leftVerdict rest) _ (refuses-left (ToldOf ofATable limit) rest (plain limit 10 refl refl)) (λ a.
-      refuses-then (ToldOf ofATable limit) (rateSumVerdict t) (finishesVerdict t) (refuses-sum limit (ToldOf ofATable limit) (of-a-table limit) t) (λ b. refuses-finishes limit t (few t rest refl))) in
+      let last = refuses-then (AmongRefusals ofATable limit) (leftVerdict rest) _ (refuses-left (AmongRefusals ofATable limit) rest (plain limit 10 refl refl)) (λ a.
+      refuses-then (AmongRefusals ofATable limit) (rateSumVerdict t) (finishesVerdict t) (refuses-sum limit (AmongRefusals ofATable limit) (of-a-table limit) t) (λ b. refuses-finishes limit t (few t rest refl))) in
       by (lastVerdict t rest) last e
     where
-      by : (v : Verdict) → Refuses (ToldOf ofATable limit) v → resolve {X = TableResult} v (accept t) (refuse limit) .answer ≡ refused r → ToldOf ofATable limit r
+      by : (v : Verdict) → Refuses (AmongRefusals ofATable limit) v → resolve {X = TableResult} v (accept t) (refuse limit) .answer ≡ refused r → AmongRefusals ofATable limit r
       by faultless h f = let z : _≡_ {A = ℕ} 0 1 = cc in absurd (omega arith)
       by (fault q) h f = let same : q ≡ r = cc in rw same at (h q refl)
 
-  refuses-answer : (bytes : List ℕ) (r : Refusal) → readTable limit bytes .answer ≡ refused r → ToldOf ofATable limit r
+  refuses-answer : (bytes : List ℕ) (r : Refusal) → readTable limit bytes .answer ≡ refused r → AmongRefusals ofATable limit r
   unfolding readTable
-  refuses-answer bytes r e = refuses-settled (numbersRead limit bytes) (refuses-numbers limit (ToldOf ofATable limit) (of-a-table limit) bytes) (few-numbers bytes) r e
+  refuses-answer bytes r e = refuses-settled (numbersRead limit bytes) (refuses-numbers limit (AmongRefusals ofATable limit) (of-a-table limit) bytes) (few-numbers bytes) r e
 
 -- ---- the calls
 
@@ -356,9 +356,9 @@ pub table-start-names-below : Table-start-names-below
 unfolding start startVerdict
 table-start-names-below limit t first r e =
     by (startVerdict limit t first)
-    (refuses-then (ToldOf ofATable limit) (admissionVerdict limit t) _ (refuses-admission limit t) (λ ok. refuses-gate (ToldOf ofATable limit) (refusal 12) (leb first maxSlot) faultless (plain limit 12 refl refl) (refuses-none (ToldOf ofATable limit)))) e
+    (refuses-then (AmongRefusals ofATable limit) (admissionVerdict limit t) _ (refuses-admission limit t) (λ ok. refuses-gate (AmongRefusals ofATable limit) (refusal 12) (leb first maxSlot) faultless (plain limit 12 refl refl) (refuses-none (AmongRefusals ofATable limit)))) e
   where
-    by : (v : Verdict) → Refuses (ToldOf ofATable limit) v → resolve {X = Result State Answer} v (record { state = opening t first; answer = accepted }) (λ q. record { state = noState limit; answer = refused q }) .answer ≡ refused r → ToldOf ofATable limit r
+    by : (v : Verdict) → Refuses (AmongRefusals ofATable limit) v → resolve {X = Result State Answer} v (record { state = opening t first; answer = accepted }) (λ q. record { state = noState limit; answer = refused q }) .answer ≡ refused r → AmongRefusals ofATable limit r
     by faultless h f = let z : _≡_ {A = ℕ} 0 1 = cc in absurd (omega arith)
     by (fault q) h f = let same : q ≡ r = cc in rw same at (h q refl)
 
@@ -366,7 +366,7 @@ pub start-names-below : Start-names-below
 unfolding begun
 start-names-below limit bytes first r e = by (readTable limit bytes .answer) refl e
   where
-    by : (a : Answer) → readTable limit bytes .answer ≡ a → unless a (turnedDown limit) (start limit (readTable limit bytes .table) first) .answer ≡ refused r → ToldOf ofATable limit r
+    by : (a : Answer) → readTable limit bytes .answer ≡ a → unless a (turnedDown limit) (start limit (readTable limit bytes .table) first) .answer ≡ refused r → AmongRefusals ofATable limit r
     by accepted h f = table-start-names-below limit (readTable limit bytes .table) first r f
     by (granted stamp p) h f = table-start-names-below limit (readTable limit bytes .table) first r f
     by (idle stamp) h f = table-start-names-below limit (readTable limit bytes .table) first r f
@@ -377,19 +377,19 @@ unfolding carry
 carry-names-below old new o r e = by (carryVerdict old o) (refuses-gate Is23 (refusal 23) (sound old (asState o)) faultless (refl, plain new 23 refl refl) (refuses-none Is23)) e
   where
     Is23 : Refusal → Type 0
-    Is23 q = (q ≡ refusal 23) × ToldOf ofAState new q
+    Is23 q = (q ≡ refusal 23) × AmongRefusals ofAState new q
 
     by : (v : Verdict) → Refuses Is23 v
         → resolve {X = Result State Answer} v (record { state = longer (new - old) (asState o); answer = accepted }) (turnedDown new) .answer ≡ refused r → Is23 r
     by faultless h f = let z : _≡_ {A = ℕ} 0 1 = cc in absurd (omega arith)
     by (fault q) h f = let same : q ≡ r = cc in rw same at (h q refl)
 
-refuses-rule : (limit : ℕ) (s : State) (c : Call) → Refuses (ToldOf ofAState limit) (ruleVerdict s c)
+refuses-rule : (limit : ℕ) (s : State) (c : Call) → Refuses (AmongRefusals ofAState limit) (ruleVerdict s c)
 unfolding ruleVerdict
 refuses-rule limit s (post p count) =
-    refuses-gate (ToldOf ofAState limit) (refusal 11) (ltb p (s .table .count)) _ (plain limit 11 refl refl)
-    (refuses-gate (ToldOf ofAState limit) (refusal 21) (leb (backlog (accountAt p (s .accounts)) + count) maxBacklog) faultless (plain limit 21 refl refl) (refuses-none (ToldOf ofAState limit)))
-refuses-rule limit s slot = refuses-gate (ToldOf ofAState limit) (refusal 22) (ltb (s .slot .0) maxSlot) faultless (plain limit 22 refl refl) (refuses-none (ToldOf ofAState limit))
+    refuses-gate (AmongRefusals ofAState limit) (refusal 11) (ltb p (s .table .count)) _ (plain limit 11 refl refl)
+    (refuses-gate (AmongRefusals ofAState limit) (refusal 21) (leb (backlog (accountAt p (s .accounts)) + count) maxBacklog) faultless (plain limit 21 refl refl) (refuses-none (AmongRefusals ofAState limit)))
+refuses-rule limit s slot = refuses-gate (AmongRefusals ofAState limit) (refusal 22) (ltb (s .slot .0) maxSlot) faultless (plain limit 22 refl refl) (refuses-none (AmongRefusals ofAState limit))
 
 outcome-fault : (v : Verdict) (s : State) (c : Call) (r : Refusal) → outcome v s c .answer ≡ refused r → v ≡ fault r
 unfolding done
@@ -405,20 +405,20 @@ pub calls-name-below : Calls-name-below
 unfolding called
 calls-name-below limit s c r e =
     let v = gate (refusal 23) (sound limit s) (ruleVerdict s c) in
-    refuses-gate (ToldOf ofAState limit) (refusal 23) (sound limit s) (ruleVerdict s c) (plain limit 23 refl refl) (refuses-rule limit s c) r (outcome-fault v s c r e)
+    refuses-gate (AmongRefusals ofAState limit) (refusal 23) (sound limit s) (ruleVerdict s c) (plain limit 23 refl refl) (refuses-rule limit s c) r (outcome-fault v s c r e)
 
-refuses-input : (limit bytes : ℕ) → Refuses (ToldOf ofAState limit) (inputVerdict bytes)
+refuses-input : (limit bytes : ℕ) → Refuses (AmongRefusals ofAState limit) (inputVerdict bytes)
 unfolding inputVerdict
-refuses-input limit bytes = refuses-gate (ToldOf ofAState limit) (refusal 13) (leb bytes maxInput) faultless (plain limit 13 refl refl) (refuses-none (ToldOf ofAState limit))
+refuses-input limit bytes = refuses-gate (AmongRefusals ofAState limit) (refusal 13) (leb bytes maxInput) faultless (plain limit 13 refl refl) (refuses-none (AmongRefusals ofAState limit))
 
 pub runs-name-below : Runs-name-below
 unfolding run runVerdict slotsVerdict
 runs-name-below limit s log r e =
     by (runVerdict limit s (length log))
-    (refuses-gate (ToldOf ofAState limit) (refusal 23) (sound limit s) _ (plain limit 23 refl refl)
-    (refuses-then (ToldOf ofAState limit) (inputVerdict (length log)) _ (refuses-input limit (length log)) (λ ok. refuses-gate (ToldOf ofAState limit) (refusal 22) (leb (s .slot .0 + length log) maxSlot) faultless (plain limit 22 refl refl) (refuses-none (ToldOf ofAState limit))))) e
+    (refuses-gate (AmongRefusals ofAState limit) (refusal 23) (sound limit s) _ (plain limit 23 refl refl)
+    (refuses-then (AmongRefusals ofAState limit) (inputVerdict (length log)) _ (refuses-input limit (length log)) (λ ok. refuses-gate (AmongRefusals ofAState limit) (refusal 22) (leb (s .slot .0 + length log) maxSlot) faultless (plain limit 22 refl refl) (refuses-none (AmongRefusals ofAState limit))))) e
   where
-    by : (v : Verdict) → Refuses (ToldOf ofAState limit) v → resolve {X = Outcome} v (record { state = slotsState (length log) s; answer = accepted; log = slotsLog (length log) s }) (λ q. record { state = s; answer = refused q; log = log }) .answer ≡ refused r → ToldOf ofAState limit r
+    by : (v : Verdict) → Refuses (AmongRefusals ofAState limit) v → resolve {X = Outcome} v (record { state = slotsState (length log) s; answer = accepted; log = slotsLog (length log) s }) (λ q. record { state = s; answer = refused q; log = log }) .answer ≡ refused r → AmongRefusals ofAState limit r
     by faultless h f = let z : _≡_ {A = ℕ} 0 1 = cc in absurd (omega arith)
     by (fault q) h f = let same : q ≡ r = cc in rw same at (h q refl)
 
@@ -426,8 +426,8 @@ refuses-place : (P : Refusal → Type 0) → P (refusal 23) → P (refusal 11) �
 unfolding placeVerdict
 refuses-place P unsound absent limit s p = refuses-gate P (refusal 23) (sound limit s) _ unsound (refuses-gate P (refusal 11) (ltb p (s .table .count)) faultless absent (refuses-none P))
 
-refuses-asked : (limit : ℕ) (s : State) (p : ℕ) → Refuses (ToldOf ofAState limit) (placeVerdict limit s p)
-refuses-asked limit = refuses-place (ToldOf ofAState limit) (plain limit 23 refl refl) (plain limit 11 refl refl) limit
+refuses-asked : (limit : ℕ) (s : State) (p : ℕ) → Refuses (AmongRefusals ofAState limit) (placeVerdict limit s p)
+refuses-asked limit = refuses-place (AmongRefusals ofAState limit) (plain limit 23 refl refl) (plain limit 11 refl refl) limit
 
 -- past 23 and 11 there is room for as many places as the table has
 few-places : (limit : ℕ) (s : State) (p : ℕ) → placeVerdict limit s p ≡ faultless → s .table .count ≤ limit
@@ -437,26 +437,26 @@ pub figures-name-below : Figures-name-below
 unfolding asked.figures asked.figuresVerdict
 figures-name-below limit s p j r e =
     by _ _ (asked.figuresVerdict limit s p j)
-    (refuses-then (ToldOf ofAState limit) (placeVerdict limit s p) _ (refuses-asked limit s p) (λ ok. refuses-held (ToldOf ofAState limit) (needBounds p) j (at-place limit 5 p refl refl (few ok)))) e
+    (refuses-then (AmongRefusals ofAState limit) (placeVerdict limit s p) _ (refuses-asked limit s p) (λ ok. refuses-held (AmongRefusals ofAState limit) (needBounds p) j (at-place limit 5 p refl refl (few ok)))) e
   where
     few : placeVerdict limit s p ≡ faultless → p < limit
     few ok = omega (arith, place-open limit s p ok .1, few-places limit s p ok)
 
-    by : (x y : ℕ) (v : Verdict) → Refuses (ToldOf ofAState limit) v → resolve v (asked.figured x y) asked.refused ≡ asked.refused r → ToldOf ofAState limit r
+    by : (x y : ℕ) (v : Verdict) → Refuses (AmongRefusals ofAState limit) v → resolve v (asked.figured x y) asked.refused ≡ asked.refused r → AmongRefusals ofAState limit r
     by x y faultless h f = let z : _≡_ {A = ℕ} 0 1 = cc in absurd (omega arith)
     by x y (fault q) h f = let same : q ≡ r = cc in rw same at (h q refl)
 
 -- a chain figure: 23 and 11, then 11 of each name and 16 of each place
-abbrev ChainTold : ℕ → Refusal → Type 0
-ChainTold limit r = ToldOf ofAChain limit r
+abbrev ChainRefusal : ℕ → Refusal → Type 0
+ChainRefusal limit r = AmongRefusals ofAChain limit r
 
 pub chains-name-below : Chains-name-below
 unfolding chains.chainVerdict chains.followingVerdict chains.nameVerdict chains.circleVerdict
 chains-name-below limit s p names r e =
-    refuses-then (ChainTold limit) (placeVerdict limit s p) _ (refuses-place (ChainTold limit) (plain limit 23 refl refl) (plain limit 11 refl refl) limit s p) (λ ok.
-    refuses-then (ChainTold limit) (chains.namesVerdict (s .table) names) _
-    (refuses-each (ChainTold limit) limit (chains.nameVerdict (s .table .count) names) (λ q x h. refuses-gate (ChainTold limit) (refusal 11) _ faultless (plain limit 11 refl refl) (refuses-none (ChainTold limit))) 0 (requestorsOf (s .table)) (few ok))
-    (λ there. refuses-each (ChainTold limit) limit (chains.circleVerdict (s .table .count) names) (λ q x h. refuses-gate (ChainTold limit) (refusalAt 16 q) _ faultless (at-place limit 16 q refl refl h) (refuses-none (ChainTold limit))) 0 (requestorsOf (s .table)) (few ok)))
+    refuses-then (ChainRefusal limit) (placeVerdict limit s p) _ (refuses-place (ChainRefusal limit) (plain limit 23 refl refl) (plain limit 11 refl refl) limit s p) (λ ok.
+    refuses-then (ChainRefusal limit) (chains.namesVerdict (s .table) names) _
+    (refuses-each (ChainRefusal limit) limit (chains.nameVerdict (s .table .count) names) (λ q x h. refuses-gate (ChainRefusal limit) (refusal 11) _ faultless (plain limit 11 refl refl) (refuses-none (ChainRefusal limit))) 0 (requestorsOf (s .table)) (few ok))
+    (λ there. refuses-each (ChainRefusal limit) limit (chains.circleVerdict (s .table .count) names) (λ q x h. refuses-gate (ChainRefusal limit) (refusalAt 16 q) _ faultless (at-place limit 16 q refl refl h) (refuses-none (ChainRefusal limit))) 0 (requestorsOf (s .table)) (few ok)))
     r (chain-refused limit s p names r e)
   where
     few : placeVerdict limit s p ≡ faultless → 0 + length (requestorsOf (s .table)) ≤ limit
@@ -465,9 +465,9 @@ chains-name-below limit s p names r e =
 pub leads-name-below : Leads-name-below
 unfolding leads.leadAsked leads.leadVerdict
 leads-name-below limit s p log r e =
-    by _ (leads.leadVerdict limit s p (length log)) (refuses-then (ToldOf ofAState limit) (placeVerdict limit s p) _ (refuses-asked limit s p) (λ ok. refuses-input limit (length log))) e
+    by _ (leads.leadVerdict limit s p (length log)) (refuses-then (AmongRefusals ofAState limit) (placeVerdict limit s p) _ (refuses-asked limit s p) (λ ok. refuses-input limit (length log))) e
   where
-    by : (x : ℤ) (v : Verdict) → Refuses (ToldOf ofAState limit) v → resolve v (leads.lead x) leads.refused ≡ leads.refused r → ToldOf ofAState limit r
+    by : (x : ℤ) (v : Verdict) → Refuses (AmongRefusals ofAState limit) v → resolve v (leads.lead x) leads.refused ≡ leads.refused r → AmongRefusals ofAState limit r
     by x faultless h f = let z : _≡_ {A = ℕ} 0 1 = cc in absurd (omega arith)
     by x (fault q) h f = let same : q ≡ r = cc in rw same at (h q refl)
 
@@ -483,29 +483,29 @@ module _ (P : Refusal → Type 0) where
 pub write-names-below : Write-names-below
 unfolding writing.writeTable writing.writeVerdict
 write-names-below limit t buffer r e =
-    refuses-written (ToldOf ofATable limit) (writing.writeVerdict limit t (length buffer)) t buffer
-    (refuses-then (ToldOf ofATable limit) (admissionVerdict limit t) _ (refuses-admission limit t) (λ ok. refuses-room (ToldOf ofATable limit) t (length buffer) (plain limit 14 refl refl))) r e
+    refuses-written (AmongRefusals ofATable limit) (writing.writeVerdict limit t (length buffer)) t buffer
+    (refuses-then (AmongRefusals ofATable limit) (admissionVerdict limit t) _ (refuses-admission limit t) (λ ok. refuses-room (AmongRefusals ofATable limit) t (length buffer) (plain limit 14 refl refl))) r e
 
 -- an ordering: what is read of its bytes, 10, 6, 15, and then the writer's
 module _ (limit : ℕ) where
-  abbrev OrderTold : Refusal → Type 0
-  OrderTold r = ToldOf ofAnOrder limit r
+  abbrev OrderRefusal : Refusal → Type 0
+  OrderRefusal r = AmongRefusals ofAnOrder limit r
 
-  order-refusals : TableRefusals limit OrderTold
+  order-refusals : TableRefusals limit OrderRefusal
   order-refusals = table-refusals ofAnOrder limit refl refl refl refl refl refl refl refl refl
 
-  refuses-found : (t : Table) (o : Option (List Requestor)) (r : Refusal) → found limit t o .answer ≡ refused r → OrderTold r
-  refuses-found t option.none r e = refuses-fault OrderTold (refusal 15) (plain limit 15 refl refl) r (let same : refusal 15 ≡ r = cc in ap fault same)
+  refuses-found : (t : Table) (o : Option (List Requestor)) (r : Refusal) → found limit t o .answer ≡ refused r → OrderRefusal r
+  refuses-found t option.none r e = refuses-fault OrderRefusal (refusal 15) (plain limit 15 refl refl) r (let same : refusal 15 ≡ r = cc in ap fault same)
   refuses-found t (option.some rows) r e = let z : _≡_ {A = ℕ} 0 1 = cc in absurd (omega arith)
 
-  refuses-order-read : (x : Read Table) → ReadRefuses OrderTold x → (r : Refusal) → orderRead limit x .answer ≡ refused r → OrderTold r
+  refuses-order-read : (x : Read Table) → ReadRefuses OrderRefusal x → (r : Refusal) → orderRead limit x .answer ≡ refused r → OrderRefusal r
   unfolding orderRead listedVerdict
   refuses-order-read (stop q) s r e = let same : q ≡ r = cc in rw same at (s q refl)
   refuses-order-read (read t rest) s r e =
       by (listedVerdict t rest)
-      (refuses-then OrderTold (leftVerdict rest) _ (refuses-left OrderTold rest (plain limit 10 refl refl)) (λ a. refuses-sum limit OrderTold order-refusals t)) e
+      (refuses-then OrderRefusal (leftVerdict rest) _ (refuses-left OrderRefusal rest (plain limit 10 refl refl)) (λ a. refuses-sum limit OrderRefusal order-refusals t)) e
     where
-      by : (v : Verdict) → Refuses OrderTold v → resolve v (found limit t (orderOf t)) (refuse limit) .answer ≡ refused r → OrderTold r
+      by : (v : Verdict) → Refuses OrderRefusal v → resolve v (found limit t (orderOf t)) (refuse limit) .answer ≡ refused r → OrderRefusal r
       by faultless h f = refuses-found t (orderOf t) r f
       by (fault q) h f = let same : q ≡ r = cc in rw same at (h q refl)
 
@@ -519,29 +519,29 @@ orders-name-below limit bytes buffer r e = by (orderRead limit (numbersRead limi
     goes-on : writing.TableWritten
     goes-on = writing.writtenBy (writing.roomVerdict in-order (length buffer)) in-order buffer
 
-    carried : goes-on .answer ≡ writing.refused r → ToldOf ofAnOrder limit r
+    carried : goes-on .answer ≡ writing.refused r → AmongRefusals ofAnOrder limit r
     carried f =
-        refuses-written (OrderTold limit) (writing.roomVerdict in-order (length buffer)) in-order buffer
-        (refuses-room (OrderTold limit) in-order (length buffer) (plain limit 14 refl refl)) r f
+        refuses-written (OrderRefusal limit) (writing.roomVerdict in-order (length buffer)) in-order buffer
+        (refuses-room (OrderRefusal limit) in-order (length buffer) (plain limit 14 refl refl)) r f
 
     by : (a : Answer) → orderRead limit (numbersRead limit bytes) .answer ≡ a
-        → unless a (λ q. record { answer = writing.refused q; buffer = buffer }) goes-on .answer ≡ writing.refused r → ToldOf ofAnOrder limit r
+        → unless a (λ q. record { answer = writing.refused q; buffer = buffer }) goes-on .answer ≡ writing.refused r → AmongRefusals ofAnOrder limit r
     by accepted h f = carried f
     by (granted stamp p) h f = carried f
     by (idle stamp) h f = carried f
     by (refused q) h f =
-        let same : q ≡ r = cc in refuses-order-read limit (numbersRead limit bytes) (refuses-numbers limit (OrderTold limit) (order-refusals limit) bytes) r (h ∙ ap refused same)
+        let same : q ≡ r = cc in refuses-order-read limit (numbersRead limit bytes) (refuses-numbers limit (OrderRefusal limit) (order-refusals limit) bytes) r (h ∙ ap refused same)
 
 -- a question that its checks turn down
-refuses-told : {X : Type 0} (limit : ℕ) (x : X) (v : Verdict) → Refuses (ToldOf ofAState limit) v → (r : Refusal) → resolve v (look.told x) look.refused ≡ look.refused r → ToldOf ofAState limit r
-refuses-told limit x faultless h r f = let z : _≡_ {A = ℕ} 0 1 = cc in absurd (omega arith)
-refuses-told limit x (fault q) h r f = let same : q ≡ r = cc in rw same at (h q refl)
+refuses-looked : {X : Type 0} (limit : ℕ) (x : X) (v : Verdict) → Refuses (AmongRefusals ofAState limit) v → (r : Refusal) → resolve v (look.looked x) look.refused ≡ look.refused r → AmongRefusals ofAState limit r
+refuses-looked limit x faultless h r f = let z : _≡_ {A = ℕ} 0 1 = cc in absurd (omega arith)
+refuses-looked limit x (fault q) h r f = let same : q ≡ r = cc in rw same at (h q refl)
 
 pub looks-name-below : Looks-name-below
 unfolding look.accountAsked
-looks-name-below limit s p r e = refuses-told limit _ (placeVerdict limit s p) (refuses-asked limit s p) r e
+looks-name-below limit s p r e = refuses-looked limit _ (placeVerdict limit s p) (refuses-asked limit s p) r e
 
 pub standings-name-below : Standings-name-below
 unfolding look.standing
 standings-name-below limit s r e =
-    refuses-told limit _ (gate (refusal 23) (sound limit s) faultless) (refuses-gate (ToldOf ofAState limit) (refusal 23) (sound limit s) faultless (plain limit 23 refl refl) (refuses-none (ToldOf ofAState limit))) r e
+    refuses-looked limit _ (gate (refusal 23) (sound limit s) faultless) (refuses-gate (AmongRefusals ofAState limit) (refusal 23) (sound limit s) faultless (plain limit 23 refl refl) (refuses-none (AmongRefusals ofAState limit))) r e

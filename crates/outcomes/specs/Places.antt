@@ -61,7 +61,7 @@ namesPlace named.Nowhere = false
 namesPlace (named.Place p) = true
 
 -- a refusal with one of these numbers
-pub record ToldOf (numbers : ℕ → Bool) (limit : ℕ) (r : Refusal) : Type 0 where
+pub record AmongRefusals (numbers : ℕ → Bool) (limit : ℕ) (r : Refusal) : Type 0 where
   pub number : numbers (r .number) ≡ true
   pub names : namesPlace (r .place) ≡ placed (r .number)
   pub origin : r .origin ≡ originOf (r .number)
@@ -69,50 +69,50 @@ pub record ToldOf (numbers : ℕ → Bool) (limit : ℕ) (r : Refusal) : Type 0 
 
 -- two refusals with one outcome are one refusal, and it is neither 0 nor 255
 abbrev pub Code-tells : Type 0
-Code-tells = (limit : ℕ) (r q : Refusal) → ToldOf ofAnyCall limit r → ToldOf ofAnyCall limit q → refusalCode r ≡ refusalCode q → r ≡ q
+Code-tells = (limit : ℕ) (r q : Refusal) → AmongRefusals ofAnyCall limit r → AmongRefusals ofAnyCall limit q → refusalCode r ≡ refusalCode q → r ≡ q
 
 abbrev pub Code-apart : Type 0
-Code-apart = (limit : ℕ) (r : Refusal) → ToldOf ofAnyCall limit r → (refusalCode r ≡ 0 → ⊥) × (refusalCode r ≡ wrongLength → ⊥)
+Code-apart = (limit : ℕ) (r : Refusal) → AmongRefusals ofAnyCall limit r → (refusalCode r ≡ 0 → ⊥) × (refusalCode r ≡ wrongLength → ⊥)
 
 abbrev pub Start-names-below : Type 0
 Start-names-below =
-    (limit : ℕ) (bytes : List ℕ) (first : ℕ) (r : Refusal) → begun limit (readTable limit bytes) first .answer ≡ refused r → ToldOf ofATable limit r
+    (limit : ℕ) (bytes : List ℕ) (first : ℕ) (r : Refusal) → begun limit (readTable limit bytes) first .answer ≡ refused r → AmongRefusals ofATable limit r
 
 -- a start of a table, whatever it was given by
 abbrev pub Table-start-names-below : Type 0
-Table-start-names-below = (limit : ℕ) (t : Table) (first : ℕ) (r : Refusal) → start limit t first .answer ≡ refused r → ToldOf ofATable limit r
+Table-start-names-below = (limit : ℕ) (t : Table) (first : ℕ) (r : Refusal) → start limit t first .answer ≡ refused r → AmongRefusals ofATable limit r
 
 -- a carrying over: 23 alone
 abbrev pub Carry-names-below : Type 0
-Carry-names-below = (old new : ℕ) (o : OldState) (r : Refusal) → carry old new o .answer ≡ refused r → (r ≡ refusal 23) × ToldOf ofAState new r
+Carry-names-below = (old new : ℕ) (o : OldState) (r : Refusal) → carry old new o .answer ≡ refused r → (r ≡ refusal 23) × AmongRefusals ofAState new r
 
 -- a post or a slot
 abbrev pub Calls-name-below : Type 0
-Calls-name-below = (limit : ℕ) (s : State) (c : Call) (r : Refusal) → called limit s c .answer ≡ refused r → ToldOf ofAState limit r
+Calls-name-below = (limit : ℕ) (s : State) (c : Call) (r : Refusal) → called limit s c .answer ≡ refused r → AmongRefusals ofAState limit r
 
 abbrev pub Runs-name-below : Type 0
-Runs-name-below = (limit : ℕ) (s : State) (log : List ℕ) (r : Refusal) → run limit s log .answer ≡ refused r → ToldOf ofAState limit r
+Runs-name-below = (limit : ℕ) (s : State) (log : List ℕ) (r : Refusal) → run limit s log .answer ≡ refused r → AmongRefusals ofAState limit r
 
 abbrev pub Leads-name-below : Type 0
 Leads-name-below =
-    (limit : ℕ) (s : State) (p : ℕ) (log : List ℕ) (r : Refusal) → leads.leadAsked limit s p log ≡ leads.refused r → ToldOf ofAState limit r
+    (limit : ℕ) (s : State) (p : ℕ) (log : List ℕ) (r : Refusal) → leads.leadAsked limit s p log ≡ leads.refused r → AmongRefusals ofAState limit r
 
 abbrev pub Figures-name-below : Type 0
-Figures-name-below = (limit : ℕ) (s : State) (p j : ℕ) (r : Refusal) → asked.figures limit s p j ≡ asked.refused r → ToldOf ofAState limit r
+Figures-name-below = (limit : ℕ) (s : State) (p j : ℕ) (r : Refusal) → asked.figures limit s p j ≡ asked.refused r → AmongRefusals ofAState limit r
 
 abbrev pub Chains-name-below : Type 0
 Chains-name-below =
-    (limit : ℕ) (s : State) (p : ℕ) (names : List ℕ) (r : Refusal) → chains.chain limit s p names ≡ chains.refused r → ToldOf ofAChain limit r
+    (limit : ℕ) (s : State) (p : ℕ) (names : List ℕ) (r : Refusal) → chains.chain limit s p names ≡ chains.refused r → AmongRefusals ofAChain limit r
 
 abbrev pub Write-names-below : Type 0
 Write-names-below =
-    (limit : ℕ) (t : Table) (buffer : List ℕ) (r : Refusal) → writing.writeTable limit t buffer .answer ≡ writing.refused r → ToldOf ofATable limit r
+    (limit : ℕ) (t : Table) (buffer : List ℕ) (r : Refusal) → writing.writeTable limit t buffer .answer ≡ writing.refused r → AmongRefusals ofATable limit r
 
 abbrev pub Orders-name-below : Type 0
-Orders-name-below = (limit : ℕ) (bytes buffer : List ℕ) (r : Refusal) → orderBytes limit bytes buffer .answer ≡ writing.refused r → ToldOf ofAnOrder limit r
+Orders-name-below = (limit : ℕ) (bytes buffer : List ℕ) (r : Refusal) → orderBytes limit bytes buffer .answer ≡ writing.refused r → AmongRefusals ofAnOrder limit r
 
 abbrev pub Looks-name-below : Type 0
-Looks-name-below = (limit : ℕ) (s : State) (p : ℕ) (r : Refusal) → look.accountAsked limit s p ≡ look.refused r → ToldOf ofAState limit r
+Looks-name-below = (limit : ℕ) (s : State) (p : ℕ) (r : Refusal) → look.accountAsked limit s p ≡ look.refused r → AmongRefusals ofAState limit r
 
 abbrev pub Standings-name-below : Type 0
-Standings-name-below = (limit : ℕ) (s : State) (r : Refusal) → look.standing limit s ≡ look.refused r → ToldOf ofAState limit r
+Standings-name-below = (limit : ℕ) (s : State) (r : Refusal) → look.standing limit s ≡ look.refused r → AmongRefusals ofAState limit r

@@ -24,7 +24,7 @@ use Rattle.guarantees.proofs.Start.{start-ends}
 use Rattle.guarantees.proofs.Demand3.{demand-3}
 use Rattle.replay.specs.Replay.{madeCalls, answerWords, wordsOf, Replayed, callsFrom, continued, replay, replayedOf}
 use Rattle.replay.proofs.Replays.{length-words}
-use Rattle.replayed.specs.Written.{threes, slotsTold, grantsTold, grantsToldToFirst, answersTold, Replay-keeps-demand-3, Told-counts}
+use Rattle.replayed.specs.Written.{threes, slotsWritten, grantsWritten, grantsWrittenToFirst, answersWritten, Replay-keeps-demand-3, Written-counts}
 
 -- ---- the numbers of answers, counted
 
@@ -42,28 +42,28 @@ module _ (f : ℕ → ℕ → ℕ → ℕ) where
   counted g same [] = refl
   counted g same (a ∷ answered) = one-answer a (wordsOf answered) ∙ rw (same a, counted g same answered)
 
-slots-told : (answered : List Answer) → slotsTold (wordsOf answered) ≡ slotsIn answered
+slots-written : (answered : List Answer) → slotsWritten (wordsOf answered) ≡ slotsIn answered
 unfolding threes answerWords
-slots-told answered = counted _ _ one answered where
-  one : (a : Answer) → slotsTold (answerWords a) ≡ inSlot 0 (λ g. 1) a
+slots-written answered = counted _ _ one answered where
+  one : (a : Answer) → slotsWritten (answerWords a) ≡ inSlot 0 (λ g. 1) a
   one accepted = refl
   one (granted stamp p) = refl
   one (idle stamp) = refl
   one (refused r) = refl
 
-grants-told : (p : ℕ) (answered : List Answer) → grantsTold p (wordsOf answered) ≡ grantsTo p answered
+grants-written : (p : ℕ) (answered : List Answer) → grantsWritten p (wordsOf answered) ≡ grantsTo p answered
 unfolding threes answerWords toPlace
-grants-told p answered = counted _ _ one answered where
-  one : (a : Answer) → grantsTold p (answerWords a) ≡ inSlot 0 (toPlace p) a
+grants-written p answered = counted _ _ one answered where
+  one : (a : Answer) → grantsWritten p (answerWords a) ≡ inSlot 0 (toPlace p) a
   one accepted = refl
   one (granted stamp i) = omega arith
   one (idle stamp) = refl
   one (refused r) = refl
 
-first-told : (k : ℕ) (answered : List Answer) → grantsToldToFirst k (wordsOf answered) ≡ grantsToFirst k answered
+first-written : (k : ℕ) (answered : List Answer) → grantsWrittenToFirst k (wordsOf answered) ≡ grantsToFirst k answered
 unfolding threes answerWords toFirst
-first-told k answered = counted _ _ one answered where
-  one : (a : Answer) → grantsToldToFirst k (answerWords a) ≡ inSlot 0 (toFirst k) a
+first-written k answered = counted _ _ one answered where
+  one : (a : Answer) → grantsWrittenToFirst k (answerWords a) ≡ inSlot 0 (toFirst k) a
   one accepted = refl
   one (granted stamp i) = omega arith
   one (idle stamp) = refl
@@ -78,9 +78,9 @@ module _ {S C A : Type 0} (step : S → C → Result S A) where
   answers-append s (c ∷ calls) more = ap (λ answered. step s c .answer ∷ answered) (answers-append (step s c .state) calls more)
 
 -- the numbers in the middle of three lists of answers
-middle-told : (ahead answered behind : List Answer) (rest : List ℕ) (i m : ℕ) → length ahead ≡ i → length answered ≡ m
-    → answersTold i m (wordsOf (ahead ++ (answered ++ behind)) ++ rest) ≡ wordsOf answered
-middle-told ahead answered behind rest i m e f =
+middle-written : (ahead answered behind : List Answer) (rest : List ℕ) (i m : ℕ) → length ahead ≡ i → length answered ≡ m
+    → answersWritten i m (wordsOf (ahead ++ (answered ++ behind)) ++ rest) ≡ wordsOf answered
+middle-written ahead answered behind rest i m e f =
     let split : wordsOf (ahead ++ (answered ++ behind)) ++ rest ≡ wordsOf ahead ++ (wordsOf answered ++ (wordsOf behind ++ rest)) =
     rw (
       joined-append answerWords ahead (answered ++ behind),
@@ -88,7 +88,7 @@ middle-told ahead answered behind rest i m e f =
       append-assoc (wordsOf ahead) (wordsOf answered ++ wordsOf behind) rest,
       append-assoc (wordsOf answered) (wordsOf behind) rest,
     ) in
-    ap (answersTold i m) split
+    ap (answersWritten i m) split
     ∙ ap (take (3 * m)) (drop-at (wordsOf ahead) (wordsOf answered ++ (wordsOf behind ++ rest)) (3 * i) (length-words ahead ∙ ap (λ k. 3 * k) e))
     ∙ take-at (wordsOf answered) (wordsOf behind ++ rest) (3 * m) (length-words answered ∙ ap (λ k. 3 * k) f)
 
@@ -116,14 +116,14 @@ module _ (limit : ℕ) (s : State) (made : List Call) (old : List ℕ) (i m : �
       ∙ ap (λ l. answers (called limit) s before ++ l) (answers-append (called limit) then-state inside behind)
 
   -- the numbers of the stretch in the lent answers
-  stretch-told : answersTold i m (writtenOver (wordsOf (answers (called limit) s made)) old) ≡ wordsOf (answers (called limit) then-state inside)
+  stretch-written : answersWritten i m (writtenOver (wordsOf (answers (called limit) s made)) old) ≡ wordsOf (answers (called limit) then-state inside)
   unfolding writtenOver
-  stretch-told =
+  stretch-written =
       let ahead-long : length (answers (called limit) s before) ≡ i = length-answers (called limit) s before ∙ length-take-le i made (omega arith) in
       let inside-long : length (answers (called limit) then-state inside) ≡ m =
       length-answers (called limit) then-state inside ∙ length-take-le m (drop i made) (omega (arith, length-drop i made)) in
-      ap (λ l. answersTold i m (wordsOf l ++ drop (length (wordsOf (answers (called limit) s made))) old)) answered-parted
-      ∙ middle-told (answers (called limit) s before) (answers (called limit) then-state inside) _ _ i m ahead-long inside-long
+      ap (λ l. answersWritten i m (wordsOf l ++ drop (length (wordsOf (answers (called limit) s made))) old)) answered-parted
+      ∙ middle-written (answers (called limit) s before) (answers (called limit) then-state inside) _ _ i m ahead-long inside-long
 
 -- ---- from an accepted start
 
@@ -162,8 +162,8 @@ began limit t first calls old r words rows e a = start-ends limit t first
     let z : _≡_ {A = ℕ} 0 1 = cc in
     absurd (omega arith))
 
-pub told-counts : Told-counts
-told-counts answered = (slots-told answered, (λ p. grants-told p answered), (λ k. first-told k answered))
+pub written-counts : Written-counts
+written-counts answered = (slots-written answered, (λ p. grants-written p answered), (λ k. first-written k answered))
 
 pub replay-keeps-demand-3 : Replay-keeps-demand-3
 replay-keeps-demand-3 limit t first calls old r words rows e a =
@@ -174,10 +174,10 @@ replay-keeps-demand-3 limit t first calls old r words rows e a =
           let made = madeCalls calls old in
           let d = demand-3 limit t first (b .start-accepted) (take i made) (take m (drop i made)) in
           let answered = answersFrom limit (stateAfter limit t first (take i made)) (take m (drop i made)) in
-          let told : answersTold i m words ≡ wordsOf answered = ap (answersTold i m) (b .written) ∙ stretch-told limit (startState limit t first) made old i m h in
+          let as-written : answersWritten i m words ≡ wordsOf answered = ap (answersWritten i m) (b .written) ∙ stretch-written limit (startState limit t first) made old i m h in
           record {
-            by-rule = told ∙ ap wordsOf (d .inside-by-rule);
-            ceiling = λ k least most. rw (told, slots-told answered, first-told k answered) (d .ceiling k least most);
-            floor = λ p place waits enough. rw (told, slots-told answered, grants-told p answered) (d .floor p place waits enough);
+            by-rule = as-written ∙ ap wordsOf (d .inside-by-rule);
+            ceiling = λ k least most. rw (as-written, slots-written answered, first-written k answered) (d .ceiling k least most);
+            floor = λ p place waits enough. rw (as-written, slots-written answered, grants-written p answered) (d .floor p place waits enough);
           };
     }

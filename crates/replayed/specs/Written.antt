@@ -25,42 +25,42 @@ threes f (what ∷ stamp ∷ []) = 0
 threes f (what ∷ stamp ∷ place ∷ numbers) = f what stamp place + threes f numbers
 
 -- the accepted slots
-abbrev pub slotsTold : List ℕ → ℕ
-slotsTold = threes (λ what stamp place. pick (inRange 1 2 what) 1 0)
+abbrev pub slotsWritten : List ℕ → ℕ
+slotsWritten = threes (λ what stamp place. pick (inRange 1 2 what) 1 0)
 
 -- the transfers granted to place p
-abbrev pub grantsTold : ℕ → List ℕ → ℕ
-grantsTold p = threes (λ what stamp place. pick (eqb what 1) (pick (eqb place p) 1 0) 0)
+abbrev pub grantsWritten : ℕ → List ℕ → ℕ
+grantsWritten p = threes (λ what stamp place. pick (eqb what 1) (pick (eqb place p) 1 0) 0)
 
 -- the transfers granted to the first k places
-abbrev pub grantsToldToFirst : ℕ → List ℕ → ℕ
-grantsToldToFirst k = threes (λ what stamp place. pick (eqb what 1) (pick (ltb place k) 1 0) 0)
+abbrev pub grantsWrittenToFirst : ℕ → List ℕ → ℕ
+grantsWrittenToFirst k = threes (λ what stamp place. pick (eqb what 1) (pick (ltb place k) 1 0) 0)
 
 -- the numbers of m answers that stand behind i others
-abbrev pub answersTold : (i m : ℕ) → List ℕ → List ℕ
-answersTold i m words = take (3 * m) (drop (3 * i) words)
+abbrev pub answersWritten : (i m : ℕ) → List ℕ → List ℕ
+answersWritten i m words = take (3 * m) (drop (3 * i) words)
 
 -- so counted, the numbers of answers say what the answers say
-abbrev pub Told-counts : Type 0
-Told-counts =
+abbrev pub Written-counts : Type 0
+Written-counts =
     (answered : List Answer)
-    → (slotsTold (wordsOf answered) ≡ slotsIn answered)
-    × ((p : ℕ) → grantsTold p (wordsOf answered) ≡ grantsTo p answered)
-    × ((k : ℕ) → grantsToldToFirst k (wordsOf answered) ≡ grantsToFirst k answered)
+    → (slotsWritten (wordsOf answered) ≡ slotsIn answered)
+    × ((p : ℕ) → grantsWritten p (wordsOf answered) ≡ grantsTo p answered)
+    × ((k : ℕ) → grantsWrittenToFirst k (wordsOf answered) ≡ grantsToFirst k answered)
 
 -- what a stretch's numbers keep to: `before` leads to the stretch, and `inside` holds its calls
 pub record Kept (t : Table) (first : ℕ) (before inside : List Call) (numbers : List ℕ) : Type 0 where
   -- they are the rule's answers
   pub by-rule : numbers ≡ wordsOf (answers ruled (ruledAfter t first before) inside)
-  pub ceiling : (k : ℕ) → 1 ≤ k → k ≤ t .count → Ceiling (t .denominator) (requestorsOf t) k (slotsTold numbers) (grantsToldToFirst k numbers)
+  pub ceiling : (k : ℕ) → 1 ≤ k → k ≤ t .count → Ceiling (t .denominator) (requestorsOf t) k (slotsWritten numbers) (grantsWrittenToFirst k numbers)
   pub floor : (p : ℕ) → p < t .count → Waits p (ruledAfter t first before) inside
       → t .denominator ≤ credit (accountAt p (ruledAfter t first before .accounts))
-      → Floor (t .denominator) (requestorsOf t) p (slotsTold numbers) (grantsTold p numbers)
+      → Floor (t .denominator) (requestorsOf t) p (slotsWritten numbers) (grantsWritten p numbers)
 
 -- what the calls that were made keep to: the state at their end is the rule's, and so is every stretch of them
 pub record Keeps (t : Table) (first : ℕ) (made : List Call) (state : State) (words : List ℕ) : Type 0 where
   pub ends : state ≡ ruledAfter t first made
-  pub stretch : (i m : ℕ) → i + m ≤ length made → Kept t first (take i made) (take m (drop i made)) (answersTold i m words)
+  pub stretch : (i m : ℕ) → i + m ≤ length made → Kept t first (take i made) (take m (drop i made)) (answersWritten i m words)
 
 -- The contract of `replay` is the equation here: r is what the code handed back, and `words` what it left in the lent answers. If it
 -- answers that it started, the state that it handed back is the rule's, and every stretch of the calls that it made keeps to demand 3 in

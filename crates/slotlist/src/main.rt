@@ -2,7 +2,7 @@
 use arbiter::state::Arbiter;
 use libc::STDIN_FILENO;
 use libc::STDOUT_FILENO;
-use listing::steps::Told;
+use listing::steps::Output;
 use listing::steps::first_step;
 use listing::steps::step;
 ghost use Prim.Native.Nat.{_≤_};
@@ -49,18 +49,18 @@ fn print_slots(s: Arbiter, rest: &[u8], page: &mut [u8], used: usize) -> bool
     let mut at = used;
     loop {
         let done = step(state, left, &mut page[at..]);
-        let told = done.told;
+        let output = done.output;
         state = done.state;
-        match told {
-            Told::More(wrote, taken) => {
+        match output {
+            Output::More(wrote, taken) => {
                 at = at + wrote;
                 left = &left[taken..];
             }
-            Told::Last(wrote) => {
+            Output::Last(wrote) => {
                 let end = at + wrote;
                 return io::write_all(STDOUT_FILENO, &page[..end]);
             }
-            Told::NoRoom => {
+            Output::NoRoom => {
                 if !io::write_all(STDOUT_FILENO, &page[..at]) {
                     return false;
                 }
@@ -75,12 +75,12 @@ fn print_listing(input: &[u8], page: &mut [u8]) -> bool
     requires { ⌜ lineRoom maxPlaces ≤ length (now page) ⌝ }
 {
     let first = first_step(input, page);
-    let told = first.told;
+    let output = first.output;
     let state = first.state;
-    match told {
-        Told::More(wrote, taken) => print_slots(state, &input[taken..], page, wrote),
-        Told::Last(wrote) => io::write_all(STDOUT_FILENO, &page[..wrote]),
-        Told::NoRoom => false,
+    match output {
+        Output::More(wrote, taken) => print_slots(state, &input[taken..], page, wrote),
+        Output::Last(wrote) => io::write_all(STDOUT_FILENO, &page[..wrote]),
+        Output::NoRoom => false,
     }
 }
 

@@ -33,38 +33,38 @@ part-step-end c = search needs
 step-requires : tie.Need-step-requires Inv-loop μ-loop
 step-requires c κs = search needs
 
-enum-known-told : tie.Need-enum-known-told Inv-loop μ-loop
-enum-known-told c = search needs
+enum-known-output : tie.Need-enum-known-output Inv-loop μ-loop
+enum-known-output c = search needs
 
 add-at : tie.Need-add-at Inv-loop μ-loop
-add-at c = omega (arith, (rw (c .before .told .given .1, part-to-end (c .before .before .before .before .before .before .before .before .loop .page) (c .before .before .before .before .before .before .before .before .loop .at), length-drop (c .before .before .before .before .before .before .before .before .loop .at) (c .before .before .before .before .before .before .before .before .loop .page)) at (c .before .before .before .before .before .before .step .ensures .1 .1)), c .before .before .before .before .before .before .before .before .loop .inv .1, c .before .before .before .before .before .before .before .before .loop .inv .0, c .before .before .before .before .before .before .before .before .before .before .before .good)
+add-at c = omega (arith, (rw (c .before .output .given .1, part-to-end (c .before .before .before .before .before .before .before .before .loop .page) (c .before .before .before .before .before .before .before .before .loop .at), length-drop (c .before .before .before .before .before .before .before .before .loop .at) (c .before .before .before .before .before .before .before .before .loop .page)) at (c .before .before .before .before .before .before .step .ensures .1 .1)), c .before .before .before .before .before .before .before .before .loop .inv .1, c .before .before .before .before .before .before .before .before .loop .inv .0, c .before .before .before .before .before .before .before .before .before .before .before .good)
 
 sub-left : tie.Need-sub-left Inv-loop μ-loop
-sub-left c = (rw (c .before .told .given .1) at (c .before .before .before .before .before .before .step .ensures .1 .0))
+sub-left c = (rw (c .before .output .given .1) at (c .before .before .before .before .before .before .step .ensures .1 .0))
 
 part-left-start : tie.Need-part-left-start Inv-loop μ-loop
-part-left-start c = (rw (c .before .told .given .1) at (c .before .before .before .before .before .before .step .ensures .1 .0))
+part-left-start c = (rw (c .before .output .given .1) at (c .before .before .before .before .before .before .step .ensures .1 .0))
 
 part-left-end : tie.Need-part-left-end Inv-loop μ-loop
 part-left-end c = search needs
 
 loop-less : tie.Need-loop-less Inv-loop μ-loop
-loop-less c = let taken = c .before .before .told .given .0 .1 .0 in let some : 1 ≤ taken = more-takes (held (c .before .before .before .before .before .before .before .before .before .loop .state)) (c .before .before .before .before .before .before .before .before .before .loop .left .now) (take (length (c .before .before .before .before .before .before .before .before .before .loop .page) - c .before .before .before .before .before .before .before .before .before .loop .at) (drop (c .before .before .before .before .before .before .before .before .before .loop .at) (c .before .before .before .before .before .before .before .before .before .loop .page))) _ _ (c .before .before .before .before .before .before .before .step .ensures .0) _ taken (c .before .before .told .given .1) in rw (part-to-end (c .before .before .before .before .before .before .before .before .before .loop .left .now) taken, length-drop taken (c .before .before .before .before .before .before .before .before .before .loop .left .now)) (omega (arith, some, (rw (c .before .before .told .given .1) at (c .before .before .before .before .before .before .before .step .ensures .1 .0))))
+loop-less c = let taken = c .before .before .output .given .0 .1 .0 in let some : 1 ≤ taken = more-takes (held (c .before .before .before .before .before .before .before .before .before .loop .state)) (c .before .before .before .before .before .before .before .before .before .loop .left .now) (take (length (c .before .before .before .before .before .before .before .before .before .loop .page) - c .before .before .before .before .before .before .before .before .before .loop .at) (drop (c .before .before .before .before .before .before .before .before .before .loop .at) (c .before .before .before .before .before .before .before .before .before .loop .page))) _ _ (c .before .before .before .before .before .before .before .step .ensures .0) _ taken (c .before .before .output .given .1) in rw (part-to-end (c .before .before .before .before .before .before .before .before .before .loop .left .now) taken, length-drop taken (c .before .before .before .before .before .before .before .before .before .loop .left .now)) (omega (arith, some, (rw (c .before .before .output .given .1) at (c .before .before .before .before .before .before .before .step .ensures .1 .0))))
 
 loop-again : tie.Need-loop-again Inv-loop μ-loop
-loop-again c = (search needs, omega (arith, (rw (c .before .before .told .given .1, part-to-end (c .before .before .before .before .before .before .before .before .before .loop .page) (c .before .before .before .before .before .before .before .before .before .loop .at), length-drop (c .before .before .before .before .before .before .before .before .before .loop .at) (c .before .before .before .before .before .before .before .before .before .loop .page)) at (c .before .before .before .before .before .before .before .step .ensures .1 .1)), c .before .before .before .before .before .before .before .before .before .loop .inv .1))
+loop-again c = (search needs, omega (arith, (rw (c .before .before .output .given .1, part-to-end (c .before .before .before .before .before .before .before .before .before .loop .page) (c .before .before .before .before .before .before .before .before .before .loop .at), length-drop (c .before .before .before .before .before .before .before .before .before .loop .at) (c .before .before .before .before .before .before .before .before .before .loop .page)) at (c .before .before .before .before .before .before .before .step .ensures .1 .1)), c .before .before .before .before .before .before .before .before .before .loop .inv .1))
 
-enum-known-told-2 : tie.Need-enum-known-told-2 Inv-loop μ-loop
-enum-known-told-2 c = search needs
+enum-known-output-2 : tie.Need-enum-known-output-2 Inv-loop μ-loop
+enum-known-output-2 c = search needs
 
 add-end : tie.Need-add-end Inv-loop μ-loop
-add-end c = omega (arith, (rw (c .before .told2 .given .1, part-to-end (c .before .before .before .before .before .before .before .before .loop .page) (c .before .before .before .before .before .before .before .before .loop .at), length-drop (c .before .before .before .before .before .before .before .before .loop .at) (c .before .before .before .before .before .before .before .before .loop .page)) at (c .before .before .before .before .before .before .step .ensures .1 .1)), c .before .before .before .before .before .before .before .before .loop .inv .1, c .before .before .before .before .before .before .before .before .loop .inv .0, c .before .before .before .before .before .before .before .before .before .before .before .good)
+add-end c = omega (arith, (rw (c .before .output2 .given .1, part-to-end (c .before .before .before .before .before .before .before .before .loop .page) (c .before .before .before .before .before .before .before .before .loop .at), length-drop (c .before .before .before .before .before .before .before .before .loop .at) (c .before .before .before .before .before .before .before .before .loop .page)) at (c .before .before .before .before .before .before .step .ensures .1 .1)), c .before .before .before .before .before .before .before .before .loop .inv .1, c .before .before .before .before .before .before .before .before .loop .inv .0, c .before .before .before .before .before .before .before .before .before .before .before .good)
 
 slice-reshare-prefix-write-all : tie.Need-slice-reshare-prefix-write-all Inv-loop μ-loop
-slice-reshare-prefix-write-all c = omega (arith, (rw (c .before .told2 .given .1, part-to-end (c .before .before .before .before .before .before .before .before .loop .page) (c .before .before .before .before .before .before .before .before .loop .at), length-drop (c .before .before .before .before .before .before .before .before .loop .at) (c .before .before .before .before .before .before .before .before .loop .page)) at (c .before .before .before .before .before .before .step .ensures .1 .1)), c .before .before .before .before .before .before .before .before .loop .inv .1)
+slice-reshare-prefix-write-all c = omega (arith, (rw (c .before .output2 .given .1, part-to-end (c .before .before .before .before .before .before .before .before .loop .page) (c .before .before .before .before .before .before .before .before .loop .at), length-drop (c .before .before .before .before .before .before .before .before .loop .at) (c .before .before .before .before .before .before .before .before .loop .page)) at (c .before .before .before .before .before .before .step .ensures .1 .1)), c .before .before .before .before .before .before .before .before .loop .inv .1)
 
 slice-aggregate-write-all : tie.Need-slice-aggregate-write-all Inv-loop μ-loop
-slice-aggregate-write-all c = sym (length-take-le _ _ (omega (arith, (rw (c .before .before .told2 .given .1, part-to-end (c .before .before .before .before .before .before .before .before .before .loop .page) (c .before .before .before .before .before .before .before .before .before .loop .at), length-drop (c .before .before .before .before .before .before .before .before .before .loop .at) (c .before .before .before .before .before .before .before .before .before .loop .page)) at (c .before .before .before .before .before .before .before .step .ensures .1 .1)), c .before .before .before .before .before .before .before .before .before .loop .inv .1)))
+slice-aggregate-write-all c = sym (length-take-le _ _ (omega (arith, (rw (c .before .before .output2 .given .1, part-to-end (c .before .before .before .before .before .before .before .before .before .loop .page) (c .before .before .before .before .before .before .before .before .before .loop .at), length-drop (c .before .before .before .before .before .before .before .before .before .loop .at) (c .before .before .before .before .before .before .before .before .before .loop .page)) at (c .before .before .before .before .before .before .before .step .ensures .1 .1)), c .before .before .before .before .before .before .before .before .before .loop .inv .1)))
 
 write-all-requires : tie.Need-write-all-requires Inv-loop μ-loop
 write-all-requires c κs = search needs
@@ -110,14 +110,14 @@ print-slots-spec =
     part-step-start
     part-step-end
     step-requires
-    enum-known-told
+    enum-known-output
     add-at
     sub-left
     part-left-start
     part-left-end
     loop-less
     loop-again
-    enum-known-told-2
+    enum-known-output-2
     add-end
     slice-reshare-prefix-write-all
     slice-aggregate-write-all

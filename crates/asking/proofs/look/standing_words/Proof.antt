@@ -5,7 +5,7 @@ use borrow.Author.Needs.{needs}
 use Rattle.terms.specs.Limits.{maxPlaces}
 use Rattle.layout.specs.Words.{wordsState}
 use Rattle.admission.proofs.Rows.{head-there}
-use Rattle.asking.proofs.Asked.{standing-unsound, standing-told}
+use Rattle.asking.proofs.Asked.{standing-unsound, standing-looked}
 use Rattle.asking.proofs.look.standing_words.Statement.{statement}
 use Rattle.asking.proofs.look.standing_words.Tie as tie
 
@@ -23,7 +23,7 @@ count-requires c κs = head-there _ maxPlaces (c .before .before .before .before
 
 returns-2 : tie.Need-returns-2
 unfolding wordsState
-returns-2 c = rw (c .before .slot-number .ensures, c .count .ensures) (standing-told _ _ (sym (c .before .before .before .is-sound .ensures) ∙ not-false _ (c .before .before .if1 .left)))
+returns-2 c = rw (c .before .slot-number .ensures, c .count .ensures) (standing-looked _ _ (sym (c .before .before .before .is-sound .ensures) ∙ not-false _ (c .before .before .if1 .left)))
 
 pub standing-words-spec : {M : Type 1} → statement M
 standing-words-spec =

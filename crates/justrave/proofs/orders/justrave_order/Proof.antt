@@ -6,7 +6,7 @@ use Rattle.terms.specs.Limits.{maxPlaces}
 use Rattle.table_bytes.specs.Writing.{writeAnswerOf}
 use Rattle.outcomes.proofs.Places.{orders-name-below}
 use Rattle.justrave.specs.Exported.{writeWords, writeCode}
-use Rattle.justrave.proofs.Asked.{one-put, order-shut, order-told}
+use Rattle.justrave.proofs.Asked.{one-put, order-shut, order-output}
 use Rattle.justrave.proofs.orders.justrave_order.Statement.{statement}
 use Rattle.justrave.proofs.orders.justrave_order.Tie as tie
 
@@ -41,7 +41,7 @@ returns-2 c =
     let a = c .before .before .before .before .before .before .before .before .before .before .before .args in
     let told = sym (c .before .told .given .1) in
     let put = one-put (a .answer .now) _ (c .before .before .before .before .before .before .before .if1 .left) in
-    order-told _ _ _ _ (c .before .before .before .before .before .before .before .if1 .left) _ (c .before .before .before .before .before .order-bytes .ensures) _ _ (put ∙ ap (λ x. writeWords (a .answer .now) (writeAnswerOf x)) told) (ap (λ x. writeCode (writeAnswerOf x)) told)
+    order-output _ _ _ _ (c .before .before .before .before .before .before .before .if1 .left) _ (c .before .before .before .before .before .order-bytes .ensures) _ _ (put ∙ ap (λ x. writeWords (a .answer .now) (writeAnswerOf x)) told) (ap (λ x. writeCode (writeAnswerOf x)) told)
 
 same-length-3 : tie.Need-same-length-3
 same-length-3 c = search needs
@@ -50,7 +50,7 @@ returns-3 : tie.Need-returns-3
 returns-3 c =
     let a = c .before .before .before .before .before .before .before .before .before .before .before .before .args in
     let told = sym (c .before .before .told2 .given .1) in
-    order-told _ _ _ _ (c .before .before .before .before .before .before .before .before .if1 .left) _ (c .before .before .before .before .before .before .order-bytes .ensures) _ _ (ap (λ x. writeWords (a .answer .now) (writeAnswerOf x)) told) (c .refusal-code .ensures ∙ ap (λ x. writeCode (writeAnswerOf x)) told)
+    order-output _ _ _ _ (c .before .before .before .before .before .before .before .before .if1 .left) _ (c .before .before .before .before .before .before .order-bytes .ensures) _ _ (ap (λ x. writeWords (a .answer .now) (writeAnswerOf x)) told) (c .refusal-code .ensures ∙ ap (λ x. writeCode (writeAnswerOf x)) told)
 
 pub justrave-order-spec : {M : Type 1} → statement M
 justrave-order-spec =

@@ -3,8 +3,8 @@ use borrow.Author.Tests.{not-true, not-false}
 use Rattle.terms.specs.Limits.{maxPlaces}
 use Rattle.justrave.proofs.Lengths.{lent-right}
 use Rattle.asking.specs.Look.{accountAnswerOf}
-use Rattle.justrave.specs.Exported.{lookTold}
-use Rattle.justrave.proofs.Asked.{beside, account-shut, account-told, account-below}
+use Rattle.justrave.specs.Exported.{lookOutput}
+use Rattle.justrave.proofs.Asked.{beside, account-shut, account-output, account-below}
 use borrow.Author.Needs.{needs}
 use Rattle.justrave.proofs.questions.justrave_account.Statement.{statement}
 use Rattle.justrave.proofs.questions.justrave_account.Tie as tie
@@ -34,10 +34,10 @@ same-length : tie.Need-same-length
 same-length c = search needs
 
 returns-2 : tie.Need-returns-2
-returns-2 c = let a = c .before .before .before .before .before .before .before .before .before .before .before .before .before .args in account-told maxPlaces (a .state .now) (a .answer .now) (c .before .before .before .before .before .before .before .before .before .before .lengths-hold .result) (c .before .before .before .before .before .before .before .before .before .before .lengths-hold .ensures) (a .place) (not-false _ (c .before .before .before .before .before .before .before .before .before .if1 .left)) _ (c .before .before .before .before .before .before .before .before .account-words .ensures) _ (rw (c .before .before .put-two .ensures) (ap (λ x. lookTold (a .answer .now) (accountAnswerOf x)) (sym (c .before .before .before .before .before .before .told .given .1))))
+returns-2 c = let a = c .before .before .before .before .before .before .before .before .before .before .before .before .before .args in account-output maxPlaces (a .state .now) (a .answer .now) (c .before .before .before .before .before .before .before .before .before .before .lengths-hold .result) (c .before .before .before .before .before .before .before .before .before .before .lengths-hold .ensures) (a .place) (not-false _ (c .before .before .before .before .before .before .before .before .before .if1 .left)) _ (c .before .before .before .before .before .before .before .before .account-words .ensures) _ (rw (c .before .before .put-two .ensures) (ap (λ x. lookOutput (a .answer .now) (accountAnswerOf x)) (sym (c .before .before .before .before .before .before .told .given .1))))
 
 returns-3 : tie.Need-returns-3
-returns-3 c = let a = c .before .before .before .before .before .before .before .before .before .args in account-told maxPlaces (a .state .now) (a .answer .now) (c .before .before .before .before .before .before .lengths-hold .result) (c .before .before .before .before .before .before .lengths-hold .ensures) (a .place) (not-false _ (c .before .before .before .before .before .if1 .left)) _ (c .before .before .before .before .account-words .ensures) _ (rw (c .refusal-code .ensures) (ap (λ x. lookTold (a .answer .now) (accountAnswerOf x)) (sym (c .before .before .told2 .given .1))))
+returns-3 c = let a = c .before .before .before .before .before .before .before .before .before .args in account-output maxPlaces (a .state .now) (a .answer .now) (c .before .before .before .before .before .before .lengths-hold .result) (c .before .before .before .before .before .before .lengths-hold .ensures) (a .place) (not-false _ (c .before .before .before .before .before .if1 .left)) _ (c .before .before .before .before .account-words .ensures) _ (rw (c .refusal-code .ensures) (ap (λ x. lookOutput (a .answer .now) (accountAnswerOf x)) (sym (c .before .before .told2 .given .1))))
 
 pub justrave-account-spec : {M : Type 1} → statement M
 justrave-account-spec =

@@ -9,9 +9,9 @@ use Rattle.terms.specs.Limits.{maxPlaces}
 use Rattle.terms.specs.Chain.{chainAnswerOf}
 use Rattle.layout.specs.Words.{roomOf, rightLength}
 use Rattle.layout.proofs.RoundTrip.{right}
-use Rattle.justrave.specs.Exported.{chainTold}
+use Rattle.justrave.specs.Exported.{chainOutput}
 use Rattle.justrave.proofs.Lengths.{lent-right}
-use Rattle.justrave.proofs.Asked.{one-put, beside, chain-shut, chain-names-shut, chain-told, chain-given, chain-below}
+use Rattle.justrave.proofs.Asked.{one-put, beside, chain-shut, chain-names-shut, chain-output, chain-given, chain-below}
 use Rattle.justrave.proofs.questions.justrave_chain.Statement.{statement}
 use Rattle.justrave.proofs.questions.justrave_chain.Tie as tie
 
@@ -75,8 +75,8 @@ returns-4 : tie.Need-returns-4
 returns-4 c =
     let a = c .before .before .before .before .before .before .before .before .before .before .before .before .args in
     let hold = c .before .before .before .before .before .before .before .before .lengths-hold in
-    chain-told maxPlaces (a .state .now) (a .place) (a .names .now) (a .answer .now) (hold .result) (hold .ensures) (not-false _ (c .before .before .before .before .before .before .before .if1 .left)) (as-many (c .before .before .before .before .before)) _ (c .before .before .before .before .chain-words .ensures) _
-    (rw (c .refusal-code .ensures) (ap (λ x. chainTold (a .answer .now) (chainAnswerOf x)) (sym (c .before .before .told2 .given .1))))
+    chain-output maxPlaces (a .state .now) (a .place) (a .names .now) (a .answer .now) (hold .result) (hold .ensures) (not-false _ (c .before .before .before .before .before .before .before .if1 .left)) (as-many (c .before .before .before .before .before)) _ (c .before .before .before .before .chain-words .ensures) _
+    (rw (c .refusal-code .ensures) (ap (λ x. chainOutput (a .answer .now) (chainAnswerOf x)) (sym (c .before .before .told2 .given .1))))
 
 pub justrave-chain-spec : {M : Type 1} → statement M
 justrave-chain-spec =

@@ -3,8 +3,8 @@ use borrow.Author.Tests.{not-true, not-false}
 use Rattle.terms.specs.Limits.{maxPlaces}
 use Rattle.justrave.proofs.Lengths.{lent-right}
 use Rattle.terms.specs.Asked.{figuresAnswerOf}
-use Rattle.justrave.specs.Exported.{figuresTold}
-use Rattle.justrave.proofs.Asked.{beside, figures-shut, figures-told, figures-below}
+use Rattle.justrave.specs.Exported.{figuresOutput}
+use Rattle.justrave.proofs.Asked.{beside, figures-shut, figures-output, figures-below}
 use borrow.Author.Needs.{needs}
 use Rattle.justrave.proofs.questions.justrave_figures.Statement.{statement}
 use Rattle.justrave.proofs.questions.justrave_figures.Tie as tie
@@ -34,10 +34,10 @@ same-length : tie.Need-same-length
 same-length c = search needs
 
 returns-2 : tie.Need-returns-2
-returns-2 c = let a = c .before .before .before .before .before .before .before .before .before .before .before .before .before .before .args in figures-told maxPlaces (a .state .now) (a .answer .now) (c .before .before .before .before .before .before .before .before .before .before .before .lengths-hold .result) (c .before .before .before .before .before .before .before .before .before .before .before .lengths-hold .ensures) (a .place) (a .j) (not-false _ (c .before .before .before .before .before .before .before .before .before .before .if1 .left)) _ (c .before .before .before .before .before .before .before .before .before .figures-words .ensures) _ (rw (c .before .before .put-two .ensures) (ap (λ x. figuresTold (a .answer .now) (figuresAnswerOf x)) (sym (c .before .before .before .before .before .before .before .told .given .1))))
+returns-2 c = let a = c .before .before .before .before .before .before .before .before .before .before .before .before .before .before .args in figures-output maxPlaces (a .state .now) (a .answer .now) (c .before .before .before .before .before .before .before .before .before .before .before .lengths-hold .result) (c .before .before .before .before .before .before .before .before .before .before .before .lengths-hold .ensures) (a .place) (a .j) (not-false _ (c .before .before .before .before .before .before .before .before .before .before .if1 .left)) _ (c .before .before .before .before .before .before .before .before .before .figures-words .ensures) _ (rw (c .before .before .put-two .ensures) (ap (λ x. figuresOutput (a .answer .now) (figuresAnswerOf x)) (sym (c .before .before .before .before .before .before .before .told .given .1))))
 
 returns-3 : tie.Need-returns-3
-returns-3 c = let a = c .before .before .before .before .before .before .before .before .before .args in figures-told maxPlaces (a .state .now) (a .answer .now) (c .before .before .before .before .before .before .lengths-hold .result) (c .before .before .before .before .before .before .lengths-hold .ensures) (a .place) (a .j) (not-false _ (c .before .before .before .before .before .if1 .left)) _ (c .before .before .before .before .figures-words .ensures) _ (rw (c .refusal-code .ensures) (ap (λ x. figuresTold (a .answer .now) (figuresAnswerOf x)) (sym (c .before .before .told2 .given .1))))
+returns-3 c = let a = c .before .before .before .before .before .before .before .before .before .args in figures-output maxPlaces (a .state .now) (a .answer .now) (c .before .before .before .before .before .before .lengths-hold .result) (c .before .before .before .before .before .before .lengths-hold .ensures) (a .place) (a .j) (not-false _ (c .before .before .before .before .before .if1 .left)) _ (c .before .before .before .before .figures-words .ensures) _ (rw (c .refusal-code .ensures) (ap (λ x. figuresOutput (a .answer .now) (figuresAnswerOf x)) (sym (c .before .before .told2 .given .1))))
 
 pub justrave-figures-spec : {M : Type 1} → statement M
 justrave-figures-spec =

@@ -6,8 +6,8 @@ use mir.Facts.{toZ-ofZ}
 use native.Mathlib.Omega.{arith}
 use lib.ListN.{set}
 use Rattle.lead_parts.specs.Lead.{leadAnswerOf}
-use Rattle.justrave.specs.Exported.{leadTold}
-use Rattle.justrave.proofs.Asked.{one-put, beside, lead-shut, lead-told, lead-given, lead-below}
+use Rattle.justrave.specs.Exported.{leadOutput}
+use Rattle.justrave.proofs.Asked.{one-put, beside, lead-shut, lead-output, lead-given, lead-below}
 use borrow.Author.Needs.{needs}
 use Rattle.justrave.proofs.questions.justrave_lead.Statement.{statement}
 use Rattle.justrave.proofs.questions.justrave_lead.Tie as tie
@@ -45,7 +45,7 @@ returns-2 c =
     (ap (λ y. set (a .answer .now) 0 y) (toZ-ofZ (search needs)) ∙ one-put (a .answer .now) _ (beside maxPlaces (a .state .now) (a .answer .now) 1 (hold .result) (hold .ensures) z))
 
 returns-3 : tie.Need-returns-3
-returns-3 c = let a = c .before .before .before .before .before .before .before .before .before .args in lead-told maxPlaces (a .state .now) (a .place) (a .log .now) (a .answer .now) (c .before .before .before .before .before .before .lengths-hold .result) (c .before .before .before .before .before .before .lengths-hold .ensures) (not-false _ (c .before .before .before .before .before .if1 .left)) _ (c .before .before .before .before .lead-words .ensures) _ (rw (c .refusal-code .ensures) (ap (λ x. leadTold (a .answer .now) (leadAnswerOf x)) (sym (c .before .before .told2 .given .1))))
+returns-3 c = let a = c .before .before .before .before .before .before .before .before .before .args in lead-output maxPlaces (a .state .now) (a .place) (a .log .now) (a .answer .now) (c .before .before .before .before .before .before .lengths-hold .result) (c .before .before .before .before .before .before .lengths-hold .ensures) (not-false _ (c .before .before .before .before .before .if1 .left)) _ (c .before .before .before .before .lead-words .ensures) _ (rw (c .refusal-code .ensures) (ap (λ x. leadOutput (a .answer .now) (leadAnswerOf x)) (sym (c .before .before .told2 .given .1))))
 
 pub justrave-lead-spec : {M : Type 1} → statement M
 justrave-lead-spec =

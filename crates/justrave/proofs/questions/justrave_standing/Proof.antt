@@ -4,7 +4,7 @@ use Rattle.terms.specs.Limits.{maxPlaces}
 use Rattle.justrave.proofs.Lengths.{lent-right}
 use Rattle.asking.specs.Look.{standingAnswerOf}
 use Rattle.justrave.specs.Exported.{stands}
-use Rattle.justrave.proofs.Asked.{beside, standing-shut, standing-told, standing-below}
+use Rattle.justrave.proofs.Asked.{beside, standing-shut, standing-output, standing-below}
 use borrow.Author.Needs.{needs}
 use Rattle.justrave.proofs.questions.justrave_standing.Statement.{statement}
 use Rattle.justrave.proofs.questions.justrave_standing.Tie as tie
@@ -34,10 +34,10 @@ same-length : tie.Need-same-length
 same-length c = search needs
 
 returns-2 : tie.Need-returns-2
-returns-2 c = let a = c .before .before .before .before .before .before .before .before .before .before .before .before .args in standing-told maxPlaces (a .state .now) (a .answer .now) (c .before .before .before .before .before .before .before .before .before .lengths-hold .result) (c .before .before .before .before .before .before .before .before .before .lengths-hold .ensures) (not-false _ (c .before .before .before .before .before .before .before .before .if1 .left)) _ (c .before .before .before .before .before .before .before .standing-words .ensures) _ (rw (c .before .before .put-two .ensures) (ap (λ x. stands (a .answer .now) (standingAnswerOf x)) (sym (c .before .before .before .before .before .told .given .1))))
+returns-2 c = let a = c .before .before .before .before .before .before .before .before .before .before .before .before .args in standing-output maxPlaces (a .state .now) (a .answer .now) (c .before .before .before .before .before .before .before .before .before .lengths-hold .result) (c .before .before .before .before .before .before .before .before .before .lengths-hold .ensures) (not-false _ (c .before .before .before .before .before .before .before .before .if1 .left)) _ (c .before .before .before .before .before .before .before .standing-words .ensures) _ (rw (c .before .before .put-two .ensures) (ap (λ x. stands (a .answer .now) (standingAnswerOf x)) (sym (c .before .before .before .before .before .told .given .1))))
 
 returns-3 : tie.Need-returns-3
-returns-3 c = let a = c .before .before .before .before .before .before .before .before .before .args in standing-told maxPlaces (a .state .now) (a .answer .now) (c .before .before .before .before .before .before .lengths-hold .result) (c .before .before .before .before .before .before .lengths-hold .ensures) (not-false _ (c .before .before .before .before .before .if1 .left)) _ (c .before .before .before .before .standing-words .ensures) _ (rw (c .refusal-code .ensures) (ap (λ x. stands (a .answer .now) (standingAnswerOf x)) (sym (c .before .before .told2 .given .1))))
+returns-3 c = let a = c .before .before .before .before .before .before .before .before .before .args in standing-output maxPlaces (a .state .now) (a .answer .now) (c .before .before .before .before .before .before .lengths-hold .result) (c .before .before .before .before .before .before .lengths-hold .ensures) (not-false _ (c .before .before .before .before .before .if1 .left)) _ (c .before .before .before .before .standing-words .ensures) _ (rw (c .refusal-code .ensures) (ap (λ x. stands (a .answer .now) (standingAnswerOf x)) (sym (c .before .before .told2 .given .1))))
 
 pub justrave-standing-spec : {M : Type 1} → statement M
 justrave-standing-spec =

@@ -5,7 +5,7 @@ use Rattle.justrave.proofs.Lengths.{lent-right}
 use native.Mathlib.Omega.{arith}
 use Rattle.table_bytes.specs.Writing.{writeAnswerOf}
 use Rattle.justrave.specs.Exported.{writeWords, writeCode}
-use Rattle.justrave.proofs.Asked.{one-put, beside, write-shut, write-23, write-told, write-below}
+use Rattle.justrave.proofs.Asked.{one-put, beside, write-shut, write-23, write-output, write-below}
 use borrow.Author.Needs.{needs}
 use Rattle.justrave.proofs.questions.justrave_write.Statement.{statement}
 use Rattle.justrave.proofs.questions.justrave_write.Tie as tie
@@ -50,7 +50,7 @@ returns-3 : tie.Need-returns-3
 returns-3 c =
     let a = c .before .before .before .before .before .before .before .before .before .before .before .before .before .before .args in
     let put = one-put (a .answer .now) _ (beside maxPlaces (a .state .now) (a .answer .now) 1 (c .before .before .before .before .before .before .before .before .before .before .lengths-hold .result) (c .before .before .before .before .before .before .before .before .before .before .lengths-hold .ensures) (not-false _ (c .before .before .before .before .before .before .before .before .before .if1 .left))) in
-    write-told maxPlaces (a .state .now) (a .buffer .now) (a .answer .now) (c .before .before .before .before .before .before .before .before .before .before .lengths-hold .result) (c .before .before .before .before .before .before .before .before .before .before .lengths-hold .ensures) (not-false _ (c .before .before .before .before .before .before .before .before .before .if1 .left)) (sym (c .before .before .before .before .before .before .before .before .is-sound .ensures) ∙ not-false _ (c .before .before .before .before .before .before .before .if2 .left)) _ (c .before .before .before .before .before .admit-and-write .ensures) _ _ (put ∙ ap (λ x. writeWords (a .answer .now) (writeAnswerOf x)) (sym (c .before .told .given .1))) (ap (λ x. writeCode (writeAnswerOf x)) (sym (c .before .told .given .1)))
+    write-output maxPlaces (a .state .now) (a .buffer .now) (a .answer .now) (c .before .before .before .before .before .before .before .before .before .before .lengths-hold .result) (c .before .before .before .before .before .before .before .before .before .before .lengths-hold .ensures) (not-false _ (c .before .before .before .before .before .before .before .before .before .if1 .left)) (sym (c .before .before .before .before .before .before .before .before .is-sound .ensures) ∙ not-false _ (c .before .before .before .before .before .before .before .if2 .left)) _ (c .before .before .before .before .before .admit-and-write .ensures) _ _ (put ∙ ap (λ x. writeWords (a .answer .now) (writeAnswerOf x)) (sym (c .before .told .given .1))) (ap (λ x. writeCode (writeAnswerOf x)) (sym (c .before .told .given .1)))
 
 same-length-3 : tie.Need-same-length-3
 same-length-3 c = search needs
@@ -58,7 +58,7 @@ same-length-3 c = search needs
 returns-4 : tie.Need-returns-4
 returns-4 c =
     let a = c .before .before .before .before .before .before .before .before .before .before .before .before .before .before .before .args in
-    write-told maxPlaces (a .state .now) (a .buffer .now) (a .answer .now) (c .before .before .before .before .before .before .before .before .before .before .before .lengths-hold .result) (c .before .before .before .before .before .before .before .before .before .before .before .lengths-hold .ensures) (not-false _ (c .before .before .before .before .before .before .before .before .before .before .if1 .left)) (sym (c .before .before .before .before .before .before .before .before .before .is-sound .ensures) ∙ not-false _ (c .before .before .before .before .before .before .before .before .if2 .left)) _ (c .before .before .before .before .before .before .admit-and-write .ensures) _ _ (ap (λ x. writeWords (a .answer .now) (writeAnswerOf x)) (sym (c .before .before .told2 .given .1))) (c .refusal-code2 .ensures ∙ ap (λ x. writeCode (writeAnswerOf x)) (sym (c .before .before .told2 .given .1)))
+    write-output maxPlaces (a .state .now) (a .buffer .now) (a .answer .now) (c .before .before .before .before .before .before .before .before .before .before .before .lengths-hold .result) (c .before .before .before .before .before .before .before .before .before .before .before .lengths-hold .ensures) (not-false _ (c .before .before .before .before .before .before .before .before .before .before .if1 .left)) (sym (c .before .before .before .before .before .before .before .before .before .is-sound .ensures) ∙ not-false _ (c .before .before .before .before .before .before .before .before .if2 .left)) _ (c .before .before .before .before .before .before .admit-and-write .ensures) _ _ (ap (λ x. writeWords (a .answer .now) (writeAnswerOf x)) (sym (c .before .before .told2 .given .1))) (c .refusal-code2 .ensures ∙ ap (λ x. writeCode (writeAnswerOf x)) (sym (c .before .before .told2 .given .1)))
 
 pub justrave-write-spec : {M : Type 1} → statement M
 justrave-write-spec =

@@ -4,7 +4,7 @@ use Rattle.terms.specs.Limits.{maxPlaces}
 use Rattle.justrave.proofs.Lengths.{lent-right}
 use Rattle.terms.specs.Answers.{startAnswerOf}
 use Rattle.outcomes.specs.Outcomes.{answerCode}
-use Rattle.justrave.proofs.Started.{bytes-shut, bytes-told, bytes-below}
+use Rattle.justrave.proofs.Started.{bytes-shut, bytes-output, bytes-below}
 use borrow.Author.Needs.{needs}
 use Rattle.justrave.proofs.starting.justrave_start.Statement.{statement}
 use Rattle.justrave.proofs.starting.justrave_start.Tie as tie
@@ -34,13 +34,13 @@ same-length-2 : tie.Need-same-length-2
 same-length-2 c = search needs
 
 returns-2 : tie.Need-returns-2
-returns-2 c = let a = c .before .before .before .before .before .before .before .before .before .before .before .args in bytes-told maxPlaces (a .state .now) (a .first) (c .before .before .before .before .before .before .before .lengths-hold .result) (c .before .before .before .before .before .before .before .lengths-hold .ensures) (a .table .now) (not-false _ (c .before .before .before .before .before .before .if1 .left)) _ _ (c .before .before .before .state .given) (c .before .before .before .before .start-bytes .ensures) _ (ap (λ x. answerCode (startAnswerOf x)) (sym (c .enum-told .given .1)))
+returns-2 c = let a = c .before .before .before .before .before .before .before .before .before .before .before .args in bytes-output maxPlaces (a .state .now) (a .first) (c .before .before .before .before .before .before .before .lengths-hold .result) (c .before .before .before .before .before .before .before .lengths-hold .ensures) (a .table .now) (not-false _ (c .before .before .before .before .before .before .if1 .left)) _ _ (c .before .before .before .state .given) (c .before .before .before .before .start-bytes .ensures) _ (ap (λ x. answerCode (startAnswerOf x)) (sym (c .enum-told .given .1)))
 
 same-length-3 : tie.Need-same-length-3
 same-length-3 c = search needs
 
 returns-3 : tie.Need-returns-3
-returns-3 c = let a = c .before .before .before .before .before .before .before .before .before .before .before .before .before .args in bytes-told maxPlaces (a .state .now) (a .first) (c .before .before .before .before .before .before .before .before .before .lengths-hold .result) (c .before .before .before .before .before .before .before .before .before .lengths-hold .ensures) (a .table .now) (not-false _ (c .before .before .before .before .before .before .before .before .if1 .left)) _ _ (c .before .before .before .before .before .state .given) (c .before .before .before .before .before .before .start-bytes .ensures) _ (c .refusal-code .ensures ∙ ap (λ x. answerCode (startAnswerOf x)) (sym (c .before .before .answer .given .1)))
+returns-3 c = let a = c .before .before .before .before .before .before .before .before .before .before .before .before .before .args in bytes-output maxPlaces (a .state .now) (a .first) (c .before .before .before .before .before .before .before .before .before .lengths-hold .result) (c .before .before .before .before .before .before .before .before .before .lengths-hold .ensures) (a .table .now) (not-false _ (c .before .before .before .before .before .before .before .before .if1 .left)) _ _ (c .before .before .before .before .before .state .given) (c .before .before .before .before .before .before .start-bytes .ensures) _ (c .refusal-code .ensures ∙ ap (λ x. answerCode (startAnswerOf x)) (sym (c .before .before .answer .given .1)))
 
 pub justrave-start-spec : {M : Type 1} → statement M
 justrave-start-spec =

@@ -6,7 +6,7 @@ use native.Mathlib.Omega.{arith}
 use Rattle.terms.specs.Answers.{startAnswerOf}
 use Rattle.layout.proofs.RoundTrip.{right}
 use Rattle.outcomes.specs.Outcomes.{answerCode}
-use Rattle.justrave.proofs.Started.{words-shut, numbers-fit, numbers-shut, numbers-told, numbers-below}
+use Rattle.justrave.proofs.Started.{words-shut, numbers-fit, numbers-shut, numbers-output, numbers-below}
 use borrow.Author.Needs.{needs}
 use Rattle.justrave.proofs.starting.justrave_start_numbers.Statement.{statement}
 use Rattle.justrave.proofs.starting.justrave_start_numbers.Tie as tie
@@ -48,13 +48,13 @@ same-length-3 : tie.Need-same-length-3
 same-length-3 c = search needs
 
 returns-3 : tie.Need-returns-3
-returns-3 c = let a = c .before .before .before .before .before .before .before .before .before .before .before .before .before .before .before .args in numbers-told maxPlaces (a .state .now) (a .first) (c .before .before .before .before .before .before .before .before .before .before .before .lengths-hold .result) (c .before .before .before .before .before .before .before .before .before .before .before .lengths-hold .ensures) (a .numbers .now) (not-false _ (c .before .before .before .before .before .before .before .before .before .before .if1 .left)) (numbers-fit maxPlaces (a .state .now) (a .first) (c .before .before .before .before .before .before .before .before .before .before .before .lengths-hold .result) (c .before .before .before .before .before .before .before .before .before .before .before .lengths-hold .ensures) (a .numbers .now) _ _ _ (c .before .before .before .before .before .before .before .before .room-of .ensures) (c .before .before .before .before .before .before .before .numbers-are-right .ensures) (not-false _ (c .before .before .before .before .before .before .if2 .left))) _ _ (c .before .before .before .state .given) (c .before .before .before .before .start-numbers .ensures) _ (ap (λ x. answerCode (startAnswerOf x)) (sym (c .enum-told .given .1)))
+returns-3 c = let a = c .before .before .before .before .before .before .before .before .before .before .before .before .before .before .before .args in numbers-output maxPlaces (a .state .now) (a .first) (c .before .before .before .before .before .before .before .before .before .before .before .lengths-hold .result) (c .before .before .before .before .before .before .before .before .before .before .before .lengths-hold .ensures) (a .numbers .now) (not-false _ (c .before .before .before .before .before .before .before .before .before .before .if1 .left)) (numbers-fit maxPlaces (a .state .now) (a .first) (c .before .before .before .before .before .before .before .before .before .before .before .lengths-hold .result) (c .before .before .before .before .before .before .before .before .before .before .before .lengths-hold .ensures) (a .numbers .now) _ _ _ (c .before .before .before .before .before .before .before .before .room-of .ensures) (c .before .before .before .before .before .before .before .numbers-are-right .ensures) (not-false _ (c .before .before .before .before .before .before .if2 .left))) _ _ (c .before .before .before .state .given) (c .before .before .before .before .start-numbers .ensures) _ (ap (λ x. answerCode (startAnswerOf x)) (sym (c .enum-told .given .1)))
 
 same-length-4 : tie.Need-same-length-4
 same-length-4 c = search needs
 
 returns-4 : tie.Need-returns-4
-returns-4 c = let a = c .before .before .before .before .before .before .before .before .before .before .before .before .before .before .before .before .before .args in numbers-told maxPlaces (a .state .now) (a .first) (c .before .before .before .before .before .before .before .before .before .before .before .before .before .lengths-hold .result) (c .before .before .before .before .before .before .before .before .before .before .before .before .before .lengths-hold .ensures) (a .numbers .now) (not-false _ (c .before .before .before .before .before .before .before .before .before .before .before .before .if1 .left)) (numbers-fit maxPlaces (a .state .now) (a .first) (c .before .before .before .before .before .before .before .before .before .before .before .before .before .lengths-hold .result) (c .before .before .before .before .before .before .before .before .before .before .before .before .before .lengths-hold .ensures) (a .numbers .now) _ _ _ (c .before .before .before .before .before .before .before .before .before .before .room-of .ensures) (c .before .before .before .before .before .before .before .before .before .numbers-are-right .ensures) (not-false _ (c .before .before .before .before .before .before .before .before .if2 .left))) _ _ (c .before .before .before .before .before .state .given) (c .before .before .before .before .before .before .start-numbers .ensures) _ (c .refusal-code .ensures ∙ ap (λ x. answerCode (startAnswerOf x)) (sym (c .before .before .answer .given .1)))
+returns-4 c = let a = c .before .before .before .before .before .before .before .before .before .before .before .before .before .before .before .before .before .args in numbers-output maxPlaces (a .state .now) (a .first) (c .before .before .before .before .before .before .before .before .before .before .before .before .before .lengths-hold .result) (c .before .before .before .before .before .before .before .before .before .before .before .before .before .lengths-hold .ensures) (a .numbers .now) (not-false _ (c .before .before .before .before .before .before .before .before .before .before .before .before .if1 .left)) (numbers-fit maxPlaces (a .state .now) (a .first) (c .before .before .before .before .before .before .before .before .before .before .before .before .before .lengths-hold .result) (c .before .before .before .before .before .before .before .before .before .before .before .before .before .lengths-hold .ensures) (a .numbers .now) _ _ _ (c .before .before .before .before .before .before .before .before .before .before .room-of .ensures) (c .before .before .before .before .before .before .before .before .before .numbers-are-right .ensures) (not-false _ (c .before .before .before .before .before .before .before .before .if2 .left))) _ _ (c .before .before .before .before .before .state .given) (c .before .before .before .before .before .before .start-numbers .ensures) _ (c .refusal-code .ensures ∙ ap (λ x. answerCode (startAnswerOf x)) (sym (c .before .before .answer .given .1)))
 
 pub justrave-start-numbers-spec : {M : Type 1} → statement M
 justrave-start-numbers-spec =

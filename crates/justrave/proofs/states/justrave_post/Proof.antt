@@ -4,7 +4,7 @@ use Rattle.terms.specs.Limits.{maxPlaces}
 use Rattle.terms.specs.Answers.{postAnswerOf}
 use Rattle.outcomes.specs.Outcomes.{answerCode}
 use Rattle.justrave.proofs.Lengths.{lent-right}
-use Rattle.justrave.proofs.Changed.{post-shut, post-told, post-below}
+use Rattle.justrave.proofs.Changed.{post-shut, post-output, post-below}
 use borrow.Author.Needs.{needs}
 use Rattle.justrave.proofs.states.justrave_post.Statement.{statement}
 use Rattle.justrave.proofs.states.justrave_post.Tie as tie
@@ -34,13 +34,13 @@ same-length-2 : tie.Need-same-length-2
 same-length-2 c = search needs
 
 returns-2 : tie.Need-returns-2
-returns-2 c = let a = c .before .before .before .before .before .before .before .before .before .before .args in post-told maxPlaces (a .state .now) (a .place) (a .count) (c .before .before .before .before .before .before .before .lengths-hold .result) (c .before .before .before .before .before .before .before .lengths-hold .ensures) (not-false _ (c .before .before .before .before .before .before .if1 .left)) _ _ (c .before .before .before .state .given) (c .before .before .before .before .post-words .ensures) _ (ap (λ x. answerCode (postAnswerOf x)) (sym (c .enum-told .given .1)))
+returns-2 c = let a = c .before .before .before .before .before .before .before .before .before .before .args in post-output maxPlaces (a .state .now) (a .place) (a .count) (c .before .before .before .before .before .before .before .lengths-hold .result) (c .before .before .before .before .before .before .before .lengths-hold .ensures) (not-false _ (c .before .before .before .before .before .before .if1 .left)) _ _ (c .before .before .before .state .given) (c .before .before .before .before .post-words .ensures) _ (ap (λ x. answerCode (postAnswerOf x)) (sym (c .enum-told .given .1)))
 
 same-length-3 : tie.Need-same-length-3
 same-length-3 c = search needs
 
 returns-3 : tie.Need-returns-3
-returns-3 c = let a = c .before .before .before .before .before .before .before .before .before .before .before .before .args in post-told maxPlaces (a .state .now) (a .place) (a .count) (c .before .before .before .before .before .before .before .before .before .lengths-hold .result) (c .before .before .before .before .before .before .before .before .before .lengths-hold .ensures) (not-false _ (c .before .before .before .before .before .before .before .before .if1 .left)) _ _ (c .before .before .before .before .before .state .given) (c .before .before .before .before .before .before .post-words .ensures) _ (c .refusal-code .ensures ∙ ap (λ x. answerCode (postAnswerOf x)) (sym (c .before .before .answer .given .1)))
+returns-3 c = let a = c .before .before .before .before .before .before .before .before .before .before .before .before .args in post-output maxPlaces (a .state .now) (a .place) (a .count) (c .before .before .before .before .before .before .before .before .before .lengths-hold .result) (c .before .before .before .before .before .before .before .before .before .lengths-hold .ensures) (not-false _ (c .before .before .before .before .before .before .before .before .if1 .left)) _ _ (c .before .before .before .before .before .state .given) (c .before .before .before .before .before .before .post-words .ensures) _ (c .refusal-code .ensures ∙ ap (λ x. answerCode (postAnswerOf x)) (sym (c .before .before .answer .given .1)))
 
 pub justrave-post-spec : {M : Type 1} → statement M
 justrave-post-spec =

@@ -4,7 +4,7 @@ use Rattle.terms.specs.Limits.{maxPlaces}
 use Rattle.terms.specs.Answers.{runAnswerOf}
 use Rattle.outcomes.specs.Outcomes.{answerCode}
 use Rattle.justrave.proofs.Lengths.{lent-right}
-use Rattle.justrave.proofs.Changed.{run-shut, run-told, run-below}
+use Rattle.justrave.proofs.Changed.{run-shut, run-output, run-below}
 use borrow.Author.Needs.{needs}
 use Rattle.justrave.proofs.states.justrave_run.Statement.{statement}
 use Rattle.justrave.proofs.states.justrave_run.Tie as tie
@@ -37,7 +37,7 @@ same-length-3 : tie.Need-same-length-3
 same-length-3 c = search needs
 
 returns-2 : tie.Need-returns-2
-returns-2 c = let a = c .before .before .before .before .before .before .before .before .before .before .before .before .before .before .args in run-told maxPlaces (a .state .now) (a .log .now) (c .before .before .before .before .before .before .before .before .before .before .lengths-hold .result) (c .before .before .before .before .before .before .before .before .before .before .lengths-hold .ensures) (not-false _ (c .before .before .before .before .before .before .before .before .before .if1 .left)) _ _ _ (c .before .before .before .before .before .state .given) (c .before .before .before .before .before .before .run-words .ensures) _ (ap (λ x. answerCode (runAnswerOf x)) (sym (c .enum-told .given .1)))
+returns-2 c = let a = c .before .before .before .before .before .before .before .before .before .before .before .before .before .before .args in run-output maxPlaces (a .state .now) (a .log .now) (c .before .before .before .before .before .before .before .before .before .before .lengths-hold .result) (c .before .before .before .before .before .before .before .before .before .before .lengths-hold .ensures) (not-false _ (c .before .before .before .before .before .before .before .before .before .if1 .left)) _ _ _ (c .before .before .before .before .before .state .given) (c .before .before .before .before .before .before .run-words .ensures) _ (ap (λ x. answerCode (runAnswerOf x)) (sym (c .enum-told .given .1)))
 
 same-length-4 : tie.Need-same-length-4
 same-length-4 c = search needs
@@ -46,7 +46,7 @@ same-length-5 : tie.Need-same-length-5
 same-length-5 c = search needs
 
 returns-3 : tie.Need-returns-3
-returns-3 c = let a = c .before .before .before .before .before .before .before .before .before .before .before .before .before .before .before .before .args in run-told maxPlaces (a .state .now) (a .log .now) (c .before .before .before .before .before .before .before .before .before .before .before .before .lengths-hold .result) (c .before .before .before .before .before .before .before .before .before .before .before .before .lengths-hold .ensures) (not-false _ (c .before .before .before .before .before .before .before .before .before .before .before .if1 .left)) _ _ _ (c .before .before .before .before .before .before .before .state .given) (c .before .before .before .before .before .before .before .before .run-words .ensures) _ (c .refusal-code .ensures ∙ ap (λ x. answerCode (runAnswerOf x)) (sym (c .before .before .answer .given .1)))
+returns-3 c = let a = c .before .before .before .before .before .before .before .before .before .before .before .before .before .before .before .before .args in run-output maxPlaces (a .state .now) (a .log .now) (c .before .before .before .before .before .before .before .before .before .before .before .before .lengths-hold .result) (c .before .before .before .before .before .before .before .before .before .before .before .before .lengths-hold .ensures) (not-false _ (c .before .before .before .before .before .before .before .before .before .before .before .if1 .left)) _ _ _ (c .before .before .before .before .before .before .before .state .given) (c .before .before .before .before .before .before .before .before .run-words .ensures) _ (c .refusal-code .ensures ∙ ap (λ x. answerCode (runAnswerOf x)) (sym (c .before .before .answer .given .1)))
 
 pub justrave-run-spec : {M : Type 1} → statement M
 justrave-run-spec =

@@ -6,7 +6,7 @@ use Rattle.terms.specs.Answers.{slotAnswerOf}
 use Rattle.outcomes.specs.Outcomes.{answerCode}
 use Rattle.justrave.specs.Exported.{slotWords}
 use Rattle.justrave.proofs.Lengths.{lent-right, lent-room, lent-beside, as-long}
-use Rattle.justrave.proofs.Changed.{slot-shut, slot-told, slot-below, granted-small}
+use Rattle.justrave.proofs.Changed.{slot-shut, slot-output, slot-below, granted-small}
 use borrow.Author.Needs.{needs}
 use Rattle.justrave.proofs.states.justrave_slot.Statement.{statement}
 use Rattle.justrave.proofs.states.justrave_slot.Tie as tie
@@ -54,7 +54,7 @@ same-length-3 : tie.Need-same-length-3
 same-length-3 c = search needs
 
 returns-2 : tie.Need-returns-2
-returns-2 c = let a = c .before .before .before .before .before .before .before .before .before .before .before .before .before .before .before .before .args in slot-told maxPlaces (a .state .now) (a .answer .now) (c .before .before .before .before .before .before .before .before .before .before .before .before .lengths-hold .result) (c .before .before .before .before .before .before .before .before .before .before .before .before .lengths-hold .ensures) (not-false _ (c .before .before .before .before .before .before .before .before .before .before .before .if1 .left)) _ _ (c .before .before .before .before .before .before .before .before .state .given) (c .before .before .before .before .before .before .before .before .before .slot-words .ensures) _ _ (c .before .before .put-two .ensures ∙ ap (λ x. slotWords (a .answer .now) (slotAnswerOf x)) (sym (c .before .before .before .before .before .what .given .1))) (ap (λ x. answerCode (slotAnswerOf x)) (sym (c .before .before .before .before .before .what .given .1)))
+returns-2 c = let a = c .before .before .before .before .before .before .before .before .before .before .before .before .before .before .before .before .args in slot-output maxPlaces (a .state .now) (a .answer .now) (c .before .before .before .before .before .before .before .before .before .before .before .before .lengths-hold .result) (c .before .before .before .before .before .before .before .before .before .before .before .before .lengths-hold .ensures) (not-false _ (c .before .before .before .before .before .before .before .before .before .before .before .if1 .left)) _ _ (c .before .before .before .before .before .before .before .before .state .given) (c .before .before .before .before .before .before .before .before .before .slot-words .ensures) _ _ (c .before .before .put-two .ensures ∙ ap (λ x. slotWords (a .answer .now) (slotAnswerOf x)) (sym (c .before .before .before .before .before .what .given .1))) (ap (λ x. answerCode (slotAnswerOf x)) (sym (c .before .before .before .before .before .what .given .1)))
 
 same-length-4 : tie.Need-same-length-4
 same-length-4 c = search needs
@@ -63,13 +63,13 @@ same-length-5 : tie.Need-same-length-5
 same-length-5 c = search needs
 
 returns-3 : tie.Need-returns-3
-returns-3 c = let a = c .before .before .before .before .before .before .before .before .before .before .before .before .before .before .before .before .args in slot-told maxPlaces (a .state .now) (a .answer .now) (c .before .before .before .before .before .before .before .before .before .before .before .before .lengths-hold .result) (c .before .before .before .before .before .before .before .before .before .before .before .before .lengths-hold .ensures) (not-false _ (c .before .before .before .before .before .before .before .before .before .before .before .if1 .left)) _ _ (c .before .before .before .before .before .before .before .before .state .given) (c .before .before .before .before .before .before .before .before .before .slot-words .ensures) _ _ (c .before .before .put-two2 .ensures ∙ ap (λ x. slotWords (a .answer .now) (slotAnswerOf x)) (sym (c .before .before .before .before .before .what2 .given .1))) (ap (λ x. answerCode (slotAnswerOf x)) (sym (c .before .before .before .before .before .what2 .given .1)))
+returns-3 c = let a = c .before .before .before .before .before .before .before .before .before .before .before .before .before .before .before .before .args in slot-output maxPlaces (a .state .now) (a .answer .now) (c .before .before .before .before .before .before .before .before .before .before .before .before .lengths-hold .result) (c .before .before .before .before .before .before .before .before .before .before .before .before .lengths-hold .ensures) (not-false _ (c .before .before .before .before .before .before .before .before .before .before .before .if1 .left)) _ _ (c .before .before .before .before .before .before .before .before .state .given) (c .before .before .before .before .before .before .before .before .before .slot-words .ensures) _ _ (c .before .before .put-two2 .ensures ∙ ap (λ x. slotWords (a .answer .now) (slotAnswerOf x)) (sym (c .before .before .before .before .before .what2 .given .1))) (ap (λ x. answerCode (slotAnswerOf x)) (sym (c .before .before .before .before .before .what2 .given .1)))
 
 same-length-6 : tie.Need-same-length-6
 same-length-6 c = search needs
 
 returns-4 : tie.Need-returns-4
-returns-4 c = let a = c .before .before .before .before .before .before .before .before .before .before .before .before .before .args in slot-told maxPlaces (a .state .now) (a .answer .now) (c .before .before .before .before .before .before .before .before .before .lengths-hold .result) (c .before .before .before .before .before .before .before .before .before .lengths-hold .ensures) (not-false _ (c .before .before .before .before .before .before .before .before .if1 .left)) _ _ (c .before .before .before .before .before .state .given) (c .before .before .before .before .before .before .slot-words .ensures) _ _ (ap (λ x. slotWords (a .answer .now) (slotAnswerOf x)) (sym (c .before .before .what3 .given .1))) (c .refusal-code .ensures ∙ ap (λ x. answerCode (slotAnswerOf x)) (sym (c .before .before .what3 .given .1)))
+returns-4 c = let a = c .before .before .before .before .before .before .before .before .before .before .before .before .before .args in slot-output maxPlaces (a .state .now) (a .answer .now) (c .before .before .before .before .before .before .before .before .before .lengths-hold .result) (c .before .before .before .before .before .before .before .before .before .lengths-hold .ensures) (not-false _ (c .before .before .before .before .before .before .before .before .if1 .left)) _ _ (c .before .before .before .before .before .state .given) (c .before .before .before .before .before .before .slot-words .ensures) _ _ (ap (λ x. slotWords (a .answer .now) (slotAnswerOf x)) (sym (c .before .before .what3 .given .1))) (c .refusal-code .ensures ∙ ap (λ x. answerCode (slotAnswerOf x)) (sym (c .before .before .what3 .given .1)))
 
 pub justrave-slot-spec : {M : Type 1} → statement M
 justrave-slot-spec =

@@ -8,7 +8,7 @@ use Rattle.terms.specs.Limits.{maxPlaces}
 use Rattle.terms.specs.Refusals.{refusal, refusalOf}
 use Rattle.terms.specs.Start.{noState}
 use Rattle.arbiter.specs.ByValue.{held}
-use Rattle.listing.proofs.Telling.{header-fits, without-room, with-room, first-begins, first-refused, told-text}
+use Rattle.listing.proofs.Telling.{header-fits, without-room, with-room, first-begins, first-refused, written-out-text}
 use Rattle.lists.proofs.Putting.{put-first, put-next, put-inside, put-room, put-length}
 use Rattle.lines.specs.Lines.{header, refusedLine}
 use Rattle.listing.specs.Listing.{more, last, firstStep}
@@ -57,13 +57,13 @@ same-length : tie.Need-same-length
 same-length c = let head = put-first (omega (arith, header-fits (c .before .before .before .before .before .before .before .before .before .if1 .left) (refusal 8))) (c .before .before .before .before .before .put-header .ensures) in put-length head
 
 returns-2 : tie.Need-returns-2
-returns-2 c = let head = put-first (omega (arith, header-fits (c .before .before .before .before .before .before .before .before .before .if1 .left) (refusal 8))) (c .before .before .before .before .before .put-header .ensures) in (told-text (λ l. more l (held (c .before .before .before .before .before .before .before .before .begin .result .state)) (drop (c .before .beginning .given .0 .0) (c .before .before .before .before .before .before .before .before .before .before .before .before .args .input .now))) header (c .before .before .before .before .before .before .before .before .before .before .before .before .args .out .now) (c .before .before .before .before .before .put-header .ensures) ∙ with-room (noState maxPlaces) (c .before .before .before .before .before .before .before .before .before .before .before .before .args .out .now) (c .before .before .before .before .before .before .before .before .before .if1 .left) (first-begins _ _ _ _ (ap (begunAs _ _) (sym (c .before .beginning .given .1)) ∙ c .before .before .before .before .before .before .before .before .begin .ensures .0)), (rw (c .before .beginning .given .1) at (c .before .before .before .before .before .before .before .before .begin .ensures .1), head .fits))
+returns-2 c = let head = put-first (omega (arith, header-fits (c .before .before .before .before .before .before .before .before .before .if1 .left) (refusal 8))) (c .before .before .before .before .before .put-header .ensures) in (written-out-text (λ l. more l (held (c .before .before .before .before .before .before .before .before .begin .result .state)) (drop (c .before .beginning .given .0 .0) (c .before .before .before .before .before .before .before .before .before .before .before .before .args .input .now))) header (c .before .before .before .before .before .before .before .before .before .before .before .before .args .out .now) (c .before .before .before .before .before .put-header .ensures) ∙ with-room (noState maxPlaces) (c .before .before .before .before .before .before .before .before .before .before .before .before .args .out .now) (c .before .before .before .before .before .before .before .before .before .if1 .left) (first-begins _ _ _ _ (ap (begunAs _ _) (sym (c .before .beginning .given .1)) ∙ c .before .before .before .before .before .before .before .before .begin .ensures .0)), (rw (c .before .beginning .given .1) at (c .before .before .before .before .before .before .before .before .begin .ensures .1), head .fits))
 
 same-length-2 : tie.Need-same-length-2
 same-length-2 c = let head = put-first (omega (arith, header-fits (c .before .before .before .before .before .before .before .before .before .before .before .before .before .before .if1 .left) (refusalOf (c .before .before .before .before .before .before .beginning2 .given .0 .0)))) (c .before .before .before .before .before .before .before .before .before .before .put-header .ensures) in let whole = put-next head (refusedLine (refusalOf (c .before .before .before .before .before .before .beginning2 .given .0 .0))) (header-fits (c .before .before .before .before .before .before .before .before .before .before .before .before .before .before .if1 .left) (refusalOf (c .before .before .before .before .before .before .beginning2 .given .0 .0))) (c .before .before .before .put-refused .ensures) in put-length whole
 
 returns-3 : tie.Need-returns-3
-returns-3 c = let head = put-first (omega (arith, header-fits (c .before .before .before .before .before .before .before .before .before .before .before .before .before .before .if1 .left) (refusalOf (c .before .before .before .before .before .before .beginning2 .given .0 .0)))) (c .before .before .before .before .before .before .before .before .before .before .put-header .ensures) in let whole = put-next head (refusedLine (refusalOf (c .before .before .before .before .before .before .beginning2 .given .0 .0))) (header-fits (c .before .before .before .before .before .before .before .before .before .before .before .before .before .before .if1 .left) (refusalOf (c .before .before .before .before .before .before .beginning2 .given .0 .0))) (c .before .before .before .put-refused .ensures) in (told-text (λ l. last l (held (c .none2 .result))) (header ++ refusedLine (refusalOf (c .before .before .before .before .before .before .beginning2 .given .0 .0))) (c .before .before .before .before .before .before .before .before .before .before .before .before .before .before .before .before .before .args .out .now) (whole .count, whole .same) ∙ with-room (noState maxPlaces) (c .before .before .before .before .before .before .before .before .before .before .before .before .before .before .before .before .before .args .out .now) (c .before .before .before .before .before .before .before .before .before .before .before .before .before .before .if1 .left) (ap (λ s. last (header ++ refusedLine (refusalOf (c .before .before .before .before .before .before .beginning2 .given .0 .0))) s) (c .none2 .ensures) ∙ first-refused _ _ _ (ap (begunAs _ _) (sym (c .before .before .before .before .before .before .beginning2 .given .1)) ∙ c .before .before .before .before .before .before .before .before .before .before .before .before .before .begin .ensures .0)), (omega arith, whole .fits))
+returns-3 c = let head = put-first (omega (arith, header-fits (c .before .before .before .before .before .before .before .before .before .before .before .before .before .before .if1 .left) (refusalOf (c .before .before .before .before .before .before .beginning2 .given .0 .0)))) (c .before .before .before .before .before .before .before .before .before .before .put-header .ensures) in let whole = put-next head (refusedLine (refusalOf (c .before .before .before .before .before .before .beginning2 .given .0 .0))) (header-fits (c .before .before .before .before .before .before .before .before .before .before .before .before .before .before .if1 .left) (refusalOf (c .before .before .before .before .before .before .beginning2 .given .0 .0))) (c .before .before .before .put-refused .ensures) in (written-out-text (λ l. last l (held (c .none2 .result))) (header ++ refusedLine (refusalOf (c .before .before .before .before .before .before .beginning2 .given .0 .0))) (c .before .before .before .before .before .before .before .before .before .before .before .before .before .before .before .before .before .args .out .now) (whole .count, whole .same) ∙ with-room (noState maxPlaces) (c .before .before .before .before .before .before .before .before .before .before .before .before .before .before .before .before .before .args .out .now) (c .before .before .before .before .before .before .before .before .before .before .before .before .before .before .if1 .left) (ap (λ s. last (header ++ refusedLine (refusalOf (c .before .before .before .before .before .before .beginning2 .given .0 .0))) s) (c .none2 .ensures) ∙ first-refused _ _ _ (ap (begunAs _ _) (sym (c .before .before .before .before .before .before .beginning2 .given .1)) ∙ c .before .before .before .before .before .before .before .before .before .before .before .before .before .begin .ensures .0)), (omega arith, whole .fits))
 
 pub first-step-spec : {M : Type 1} → statement M
 first-step-spec =

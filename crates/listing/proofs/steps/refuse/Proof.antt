@@ -3,7 +3,7 @@ use mathlib.Core.Path.{refl}
 use borrow.Author.Needs.{needs}
 use Rattle.terms.specs.Refusals.{refusalOf}
 use Rattle.arbiter.specs.ByValue.{held}
-use Rattle.listing.proofs.Telling.{refused-fits, told-text, wrote-inside}
+use Rattle.listing.proofs.Telling.{refused-fits, written-out-text, wrote-inside}
 use Rattle.lines.specs.Lines.{refusedLine}
 use Rattle.listing.specs.Listing.{last}
 use Rattle.listing.proofs.steps.refuse.Statement.{statement}
@@ -16,7 +16,7 @@ same-length : tie.Need-same-length
 same-length c = search needs
 
 returns : tie.Need-returns
-returns c = (λ bytes. told-text (λ l. last l (held (c .before .before .before .before .before .args .s))) (refusedLine (refusalOf (c .before .before .before .before .before .args .why))) (c .before .before .before .before .before .args .out .now) (c .before .before .put-refused .ensures), (refl, wrote-inside (refusedLine (refusalOf (c .before .before .before .before .before .args .why))) (c .before .before .put-refused .ensures .0) (refused-fits (c .before .before .before .before .before .pre) (refusalOf (c .before .before .before .before .before .args .why)))))
+returns c = (λ bytes. written-out-text (λ l. last l (held (c .before .before .before .before .before .args .s))) (refusedLine (refusalOf (c .before .before .before .before .before .args .why))) (c .before .before .before .before .before .args .out .now) (c .before .before .put-refused .ensures), (refl, wrote-inside (refusedLine (refusalOf (c .before .before .before .before .before .args .why))) (c .before .before .put-refused .ensures .0) (refused-fits (c .before .before .before .before .before .pre) (refusalOf (c .before .before .before .before .before .args .why)))))
 
 pub refuse-spec : {M : Type 1} → statement M
 refuse-spec = tie.close (tie.spec put-refused-requires same-length returns)

@@ -11,7 +11,7 @@ use Rattle.arbiter.specs.ByValue.{held}
 use Rattle.arbiter.proofs.ByValue.{room-full, right-full}
 use Rattle.arbiter.proofs.Shapes.{words-full}
 use Rattle.moves.proofs.Readiness.{the-slot}
-use Rattle.listing.proofs.Telling.{without-room, with-room, step-unsound, step-end, step-slot, end-fits, told-text, wrote-inside}
+use Rattle.listing.proofs.Telling.{without-room, with-room, step-unsound, step-end, step-slot, end-fits, written-out-text, wrote-inside}
 use Rattle.lines.specs.Lines.{endLine}
 use Rattle.listing.specs.Listing.{last}
 use Rattle.listing.proofs.steps.step.Statement.{statement}
@@ -64,7 +64,7 @@ returns-3 c =
     let text = endLine (held (a .s) .slot .0) in
     let here : c .before .before .before .before .slot-number .result .0 ≡ held (a .s) .slot .0 = ap (λ x. x .0) (c .before .before .before .before .slot-number .ensures) ∙ sym (the-slot (a .s .words)) in
     let put = rw here at (c .before .before .put-end .ensures) in (
-      told-text (λ l. last l (held (a .s))) text (a .out .now) put
+      written-out-text (λ l. last l (held (a .s))) text (a .out .now) put
           ∙ with-room (held (a .s)) (a .out .now) (c .before .before .before .before .before .before .before .before .before .before .before .if1 .left) (step-end _ _ _ (sym (found (c .before .before .before .before .before .before .before .before)) ∙ not-false _ (c .before .before .before .before .before .before .before .if2 .left)) (c .before .before .before .before .before .before .if3 .taken)),
       (omega arith, wrote-inside text (put .0) (end-fits (c .before .before .before .before .before .before .before .before .before .before .before .if1 .left) (held (a .s) .slot .0))),
     )

@@ -7,9 +7,9 @@ use Rattle.terms.specs.Limits.{maxPlaces}
 use Rattle.layout.specs.Words.{wordCount}
 use Rattle.arbiter.specs.ByValue.{held}
 use Rattle.rule.specs.declared.rule.Grant.the-variants.{Nobody, Place}
-use Rattle.listing.proofs.Telling.{counted, slot-fits, told-text, wrote-inside}
+use Rattle.listing.proofs.Telling.{counted, slot-fits, written-out-text, wrote-inside}
 use Rattle.lines.specs.Lines.{slotLine}
-use Rattle.listing.specs.Listing.{more, slotTold}
+use Rattle.listing.specs.Listing.{more, slotOutput}
 use Rattle.listing.proofs.steps.tell.Statement.{statement}
 use Rattle.listing.proofs.steps.tell.Tie as tie
 
@@ -47,12 +47,12 @@ same-length : tie.Need-same-length
 same-length c = search needs
 
 returns : tie.Need-returns
-unfolding slotTold
+unfolding slotOutput
 returns c =
     let a = c .before .before .before .before .before .before .before .before .before .before .before .args in
     let text = slotLine (c .before .before .before .before .before .before .answer .given .0 .0 .0) (Place (c .before .before .before .before .before .before .answer .given .0 .1 .0)) (held (a .done .state)) in
     rw (c .before .before .before .before .before .before .answer .given .1) (
-      λ bytes. told-text (λ l. more l (held (a .done .state)) (drop (a .taken) bytes)) text (a .out .now) (c .before .before .put-slot .ensures),
+      λ bytes. written-out-text (λ l. more l (held (a .done .state)) (drop (a .taken) bytes)) text (a .out .now) (c .before .before .put-slot .ensures),
       (omega arith, wrote-inside text (c .before .before .put-slot .ensures .0) (slot-fits (c .before .before .before .before .before .before .before .before .before .before .before .pre .0) _ _ _ (c .before .before .before .before .before .before .before .before .before .before .before .pre .1))),
     )
 
@@ -60,12 +60,12 @@ same-length-2 : tie.Need-same-length-2
 same-length-2 c = search needs
 
 returns-2 : tie.Need-returns-2
-unfolding slotTold
+unfolding slotOutput
 returns-2 c =
     let a = c .before .before .before .before .before .before .before .before .before .before .before .args in
     let text = slotLine (c .before .before .before .before .before .before .answer2 .given .0 .0 .0) Nobody (held (a .done .state)) in
     rw (c .before .before .before .before .before .before .answer2 .given .1) (
-      λ bytes. told-text (λ l. more l (held (a .done .state)) (drop (a .taken) bytes)) text (a .out .now) (c .before .before .put-slot2 .ensures),
+      λ bytes. written-out-text (λ l. more l (held (a .done .state)) (drop (a .taken) bytes)) text (a .out .now) (c .before .before .put-slot2 .ensures),
       (omega arith, wrote-inside text (c .before .before .put-slot2 .ensures .0) (slot-fits (c .before .before .before .before .before .before .before .before .before .before .before .pre .0) _ _ _ (c .before .before .before .before .before .before .before .before .before .before .before .pre .1))),
     )
 
@@ -73,7 +73,7 @@ same-length-3 : tie.Need-same-length-3
 same-length-3 c = search needs
 
 returns-3 : tie.Need-returns-3
-unfolding slotTold
+unfolding slotOutput
 returns-3 c = rw (c .before .before .before .before .before .answer3 .given .1) (c .before .before .refuse .ensures .0, (omega (arith, c .before .before .refuse .ensures .1 .0), c .before .before .refuse .ensures .1 .1))
 
 pub tell-spec : {M : Type 1} → statement M
