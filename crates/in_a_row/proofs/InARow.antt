@@ -26,7 +26,7 @@ use Rattle.terms.specs.TableResult.{TableResult}
 use Rattle.table_bytes.specs.Reading.{Read, read, stop, next, readAs, numberRead, itemsRead, readTable}
 use Rattle.table_bytes.proofs.Accepted.{stop-read, next-open, read-same}
 use Rattle.reads.specs.Reads.{countsRead, startRead, stateRead, begun}
-use Rattle.listing.specs.Listing.{Step, more, last, played, slotOutput, slotStep, step, headed, firstStep, texts, listing}
+use Rattle.listing.specs.Listing.{Step, more, last, postAndSlot, slotOutput, slotStep, step, headed, firstStep, texts, listing}
 use Rattle.lines.specs.Lines.{header, endLine, refusedLine}
 use Rattle.in_a_row.specs.InARow.{InARow, Prints-listing, Comes-to-an-end, Too-long}
 use Rattle.reads.proofs.Counting.{count}
@@ -74,7 +74,7 @@ unfolding slotStep
 slot-leaves limit s bytes some = told (countsRead (s .table .count) bytes) refl where
   told : (r : Read (List ℕ)) → countsRead (s .table .count) bytes ≡ r → follows (slotStep limit s r) ≤ length bytes
   told (read counts rest) e =
-      let done = played limit s counts in
+      let done = postAndSlot limit s counts in
       omega (arith, output-leaves s (done .answer) (done .state) rest, items-shorter (s .table .count) 0 bytes counts rest e)
   told (stop why) e = omega arith
 

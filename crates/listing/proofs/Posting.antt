@@ -11,7 +11,7 @@ use Rattle.terms.specs.declared.refusals.Refusal.{Refusal}
 use Rattle.terms.specs.State.{State}
 use Rattle.terms.specs.Answers.{Answer, accepted, refused}
 use Rattle.rule.specs.Calls.{post, slot, called}
-use Rattle.listing.specs.Listing.{posted, played}
+use Rattle.listing.specs.Listing.{posted, postAndSlot}
 
 -- what is left to post of the counts, from the state that the first p posts left, comes to the same as all of them
 pub record Posting (limit : ℕ) (first : State) (counts : List ℕ) (s : State) (p : ℕ) : Type 0 where
@@ -53,10 +53,10 @@ posting-end {limit} {first} {counts} {s} {p} sofar h = sym (sofar .same ∙ rw (
 -- ---- posting and the slot
 
 module _ (limit : ℕ) (s : State) (counts : List ℕ) (filled : Result State Answer) (e : filled ≡ posted limit s 0 counts) where
-  pub played-slot : filled .answer ≡ accepted → (done : Result State Answer) → done ≡ called limit (filled .state) slot → done ≡ played limit s counts
-  unfolding played
-  played-slot a done d = rw (← e, a) d
+  pub post-and-slot-accepted : filled .answer ≡ accepted → (done : Result State Answer) → done ≡ called limit (filled .state) slot → done ≡ postAndSlot limit s counts
+  unfolding postAndSlot
+  post-and-slot-accepted a done d = rw (← e, a) d
 
-  pub played-stop : (why : Refusal) → filled .answer ≡ refused why → _≡_ {A = Result State Answer} (record { state = filled .state; answer = refused why }) (played limit s counts)
-  unfolding played
-  played-stop why a = rw (← e, a)
+  pub post-and-slot-stop : (why : Refusal) → filled .answer ≡ refused why → _≡_ {A = Result State Answer} (record { state = filled .state; answer = refused why }) (postAndSlot limit s counts)
+  unfolding postAndSlot
+  post-and-slot-stop why a = rw (← e, a)

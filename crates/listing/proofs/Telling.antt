@@ -32,7 +32,7 @@ use Rattle.arbiter.proofs.ByValue.{room-full, right-full}
 use Rattle.lines.specs.Text.{decimal, spaced, line}
 use Rattle.lines.specs.Lines.{header, endLine, refusedLine, placeItem, creditItems, slotLine}
 use Rattle.reads.specs.Reads.{countsRead, begun}
-use Rattle.listing.specs.Listing.{Step, more, last, posted, played, slotOutput, slotStep, step, headed, firstStep}
+use Rattle.listing.specs.Listing.{Step, more, last, posted, postAndSlot, slotOutput, slotStep, step, headed, firstStep}
 use Rattle.listing.specs.Room.{itemRoom, lineRoom, written-out, noRoom, written, inBuffer}
 use Rattle.lines.proofs.Digits.{decimal-few}
 use Rattle.lines.proofs.Writing.{spacedCredit, credits-all, item-length, two-length, slot-length}
@@ -121,9 +121,9 @@ posted-table limit s p (count ∷ counts) =
     let same = called-table limit s (post p count) in
     unless-table (s .table) one (posted limit (one .state) (suc p) counts) (one .answer) same (posted-table limit (one .state) (suc p) counts ∙ same)
 
-played-table : (limit : ℕ) (s : State) (counts : List ℕ) → played limit s counts .state .table ≡ s .table
-unfolding played
-played-table limit s counts =
+post-and-slot-table : (limit : ℕ) (s : State) (counts : List ℕ) → postAndSlot limit s counts .state .table ≡ s .table
+unfolding postAndSlot
+post-and-slot-table limit s counts =
     let all = posted limit s 0 counts in
     let same = posted-table limit s 0 counts in
     unless-table (s .table) all (called limit (all .state) slot) (all .answer) same (called-table limit (all .state) slot ∙ same)
@@ -137,9 +137,9 @@ pub sound-few : (s : State) → sound maxPlaces s ≡ true → s .table .count �
 sound-few s e = fair maxPlaces (s .table) (sound-table maxPlaces s e) .count-most
 
 -- N of the state after its slot
-pub played-few : (s : State) (counts : List ℕ) (done : Result State Answer) → sound maxPlaces s ≡ true → done ≡ played maxPlaces s counts → done .state .table .count ≤ maxPlaces
-played-few s counts done e d =
-    let same : done .state .table .count ≡ s .table .count = ap (λ (r : Result State Answer). r .state .table .count) d ∙ ap (λ t. t .count) (played-table maxPlaces s counts) in
+pub post-and-slot-few : (s : State) (counts : List ℕ) (done : Result State Answer) → sound maxPlaces s ≡ true → done ≡ postAndSlot maxPlaces s counts → done .state .table .count ≤ maxPlaces
+post-and-slot-few s counts done e d =
+    let same : done .state .table .count ≡ s .table .count = ap (λ (r : Result State Answer). r .state .table .count) d ∙ ap (λ t. t .count) (post-and-slot-table maxPlaces s counts) in
     omega (arith, same, sound-few s e)
 
 module _ (limit : ℕ) (s : State) (bytes : List ℕ) where
@@ -148,11 +148,11 @@ module _ (limit : ℕ) (s : State) (bytes : List ℕ) where
   unfolding slotStep
   slot-stopped why e = rw (← e)
 
-  -- they are played
-  pub slot-played : (counts rest : List ℕ) (done : Result State Answer) → read counts rest ≡ countsRead (s .table .count) bytes → done ≡ played limit s counts
+  -- they are posted
+  pub slot-posted : (counts rest : List ℕ) (done : Result State Answer) → read counts rest ≡ countsRead (s .table .count) bytes → done ≡ postAndSlot limit s counts
       → slotOutput s (done .answer) (done .state) rest ≡ slotStep limit s (countsRead (s .table .count) bytes)
   unfolding slotStep
-  slot-played counts rest done e d = rw (← e, ← d)
+  slot-posted counts rest done e d = rw (← e, ← d)
 
 -- ---- a step
 

@@ -33,8 +33,8 @@ posted limit s p (count ∷ counts) =
     unless (one .answer) (λ why. one) (posted limit (one .state) (suc p) counts)
 
 -- and then the slot
-unfoldable pub played : ℕ → State → (counts : List ℕ) → Result State Answer
-played limit s counts =
+unfoldable pub postAndSlot : ℕ → State → (counts : List ℕ) → Result State Answer
+postAndSlot limit s counts =
     let filled = posted limit s 0 counts in
     unless (filled .answer) (λ why. filled) (called limit (filled .state) slot)
 
@@ -48,7 +48,7 @@ slotOutput before accepted after rest = last [] before
 
 -- a slot's counts are all read, and only then posted
 unfoldable pub slotStep : ℕ → State → Read (List ℕ) → Step
-slotStep limit s (read counts rest) = let done = played limit s counts in slotOutput s (done .answer) (done .state) rest
+slotStep limit s (read counts rest) = let done = postAndSlot limit s counts in slotOutput s (done .answer) (done .state) rest
 slotStep limit s (stop why) = last (refusedLine why) s
 
 -- One slot from the rest of the input, or a clean end where nothing is left of it, before the first slot too. It starts at slot 0, so

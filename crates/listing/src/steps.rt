@@ -1,5 +1,5 @@
 // The steps of the program: each puts its text at the start of a lent buffer, and hands on the state and how much of the input it took.
-use crate::playing::play;
+use crate::post_and_slot::post_and_slot;
 use arbiter::state::Arbiter;
 use calls::slot::SlotResult;
 use layout::words::count;
@@ -84,8 +84,8 @@ fn tell(before: Arbiter, done: SlotResult, taken: usize, out: &mut [u8]) -> Step
     }
 }
 
-// A slot of a sound state: its counts are read, posted and played.
-fn play_slot(s: Arbiter, rest: &[u8], out: &mut [u8]) -> StepResult
+// A slot of a sound state: its counts are read and posted, and the slot is done.
+fn slot_step(s: Arbiter, rest: &[u8], out: &mut [u8]) -> StepResult
     requires { ⌜ (lineRoom maxPlaces ≤ length (now out)) × (sound maxPlaces (held s) ≡ true) ⌝ }
     ensures { λ r. ⌜ outcomeOf (now (rest .entry)) r (now (out .exit)) ≡ written (slotStep maxPlaces (held s) (countsRead (held s .table .count) (now (rest .entry)))) (now (out .entry)) ⌝ }
     ensures took { λ r. ⌜ takenBy (r .output) ≤ length (now (rest .entry)) ⌝ }
@@ -99,7 +99,7 @@ fn play_slot(s: Arbiter, rest: &[u8], out: &mut [u8]) -> StepResult
     match answer {
         Counted::Refused(c) => refuse(s, c, out),
         Counted::Taken(taken) => {
-            let done = play(s, &counts[..n]);
+            let done = post_and_slot(s, &counts[..n]);
             tell(s, done, taken, out)
         }
     }
@@ -128,7 +128,7 @@ pub fn step(s: Arbiter, rest: &[u8], out: &mut [u8]) -> StepResult
             output: Output::Last(put_end(slots, out)),
         };
     }
-    play_slot(s, rest, out)
+    slot_step(s, rest, out)
 }
 
 // The header, and behind it the refusal's line if the input begins with a fault: 13, 8, 9, and the table's 1 to 7, 10 and 17.

@@ -69,8 +69,8 @@ returns-3 c =
       (omega arith, wrote-inside text (put .0) (end-fits (c .before .before .before .before .before .before .before .before .before .before .before .if1 .left) (held (a .s) .slot .0))),
     )
 
-play-slot-requires : tie.Need-play-slot-requires
-play-slot-requires c κs = (c .before .before .before .before .before .before .if1 .left, sym (found (c .before .before .before)) ∙ not-false _ (c .before .before .if2 .left))
+slot-step-requires : tie.Need-slot-step-requires
+slot-step-requires c κs = (c .before .before .before .before .before .before .if1 .left, sym (found (c .before .before .before)) ∙ not-false _ (c .before .before .if2 .left))
 
 same-length-3 : tie.Need-same-length-3
 same-length-3 c = search needs
@@ -78,9 +78,9 @@ same-length-3 c = search needs
 returns-4 : tie.Need-returns-4
 returns-4 c =
     let a = c .before .before .before .before .before .before .before .before .before .before .before .before .args in (
-      c .before .before .play-slot .ensures .0
+      c .before .before .slot-step .ensures .0
           ∙ with-room (held (a .s)) (a .out .now) (c .before .before .before .before .before .before .before .before .before .if1 .left) (step-slot _ _ _ (sym (found (c .before .before .before .before .before .before)) ∙ not-false _ (c .before .before .before .before .before .if2 .left)) (c .before .before .before .before .if3 .left)),
-      c .before .before .play-slot .ensures .1,
+      c .before .before .slot-step .ensures .1,
     )
 
 pub step-spec : {M : Type 1} → statement M
@@ -98,6 +98,6 @@ step-spec =
     put-end-requires
     same-length-2
     returns-3
-    play-slot-requires
+    slot-step-requires
     same-length-3
     returns-4)

@@ -1,4 +1,4 @@
--- `listing::steps::play_slot` meets its contract. By what the reading of the counts answers. Assumes nothing.
+-- `listing::steps::slot_step` meets its contract. By what the reading of the counts answers. Assumes nothing.
 use mathlib.Core.Path.{_≡_, ap, sym, _∙_}
 use Prim.Native.Nat.{_≤_}
 use native.Mathlib.Omega.{arith}
@@ -9,11 +9,11 @@ use Rattle.admission.proofs.Rows.{count-word}
 use Rattle.arbiter.specs.ByValue.{held}
 use Rattle.arbiter.proofs.Shapes.{words-full}
 use Rattle.reads.specs.Reads.{countsRead}
-use Rattle.listing.proofs.Telling.{sound-few, played-few, slot-stopped, slot-played}
+use Rattle.listing.proofs.Telling.{sound-few, post-and-slot-few, slot-stopped, slot-posted}
 use Rattle.reads.specs.Parts.{countedOf, countsOf}
 use Rattle.listing.specs.Room.{written}
-use Rattle.listing.proofs.steps.play_slot.Statement.{statement}
-use Rattle.listing.proofs.steps.play_slot.Tie as tie
+use Rattle.listing.proofs.steps.slot_step.Statement.{statement}
+use Rattle.listing.proofs.steps.slot_step.Tie as tie
 
 -- N of the words is N of the state
 the-count : (c : tie.After-count) → c .count .result ≡ held (c .before .before .before .before .before .args .s) .table .count
@@ -47,14 +47,14 @@ enum-known-answer-2 c = search needs
 array-share-prefix-counts : tie.Need-array-share-prefix-counts
 array-share-prefix-counts c = rw (c .before .before .before .before .read-counts .ensures .1 .1) (few (c .before .before .before .before .before))
 
-slice-aggregate-play : tie.Need-slice-aggregate-play
-slice-aggregate-play c = sym (length-take-le _ _ (rw (c .before .before .before .before .before .read-counts .ensures .1 .1) (few (c .before .before .before .before .before .before))))
+slice-aggregate-post-and-slot : tie.Need-slice-aggregate-post-and-slot
+slice-aggregate-post-and-slot c = sym (length-take-le _ _ (rw (c .before .before .before .before .before .read-counts .ensures .1 .1) (few (c .before .before .before .before .before .before))))
 
-play-requires : tie.Need-play-requires
-play-requires c κs = search needs
+post-and-slot-requires : tie.Need-post-and-slot-requires
+post-and-slot-requires c κs = search needs
 
 tell-requires : tie.Need-tell-requires
-tell-requires c κs = (c .before .before .before .before .before .before .before .before .before .before .before .before .before .pre .0, played-few (held (c .before .before .before .before .before .before .before .before .before .before .before .before .before .args .s)) _ _ (c .before .before .before .before .before .before .before .before .before .before .before .before .before .pre .1) (c .before .play .ensures))
+tell-requires c κs = (c .before .before .before .before .before .before .before .before .before .before .before .before .before .pre .0, post-and-slot-few (held (c .before .before .before .before .before .before .before .before .before .before .before .before .before .args .s)) _ _ (c .before .before .before .before .before .before .before .before .before .before .before .before .before .pre .1) (c .before .post-and-slot .ensures))
 
 same-length : tie.Need-same-length
 same-length c = search needs
@@ -75,12 +75,12 @@ returns-2 c =
     let a = c .before .before .before .before .before .before .before .before .before .before .before .before .before .before .before .before .args in
     let counted = ap (countedOf _ _) (sym (c .before .before .before .before .before .before .before .answer2 .given .1)) ∙ counts-are (c .before .before .before .before .before .before .before .before .before .before) in
     let there = rw (c .before .before .before .before .before .before .before .answer2 .given .1) at (c .before .before .before .before .before .before .before .before .before .before .read-counts .ensures .1 .0) in (
-      c .before .before .tell .ensures .0 _ ∙ ap (λ t. written t (a .out .now)) (slot-played _ (held (a .s)) _ _ _ _ counted (c .before .before .before .before .play .ensures)),
+      c .before .before .tell .ensures .0 _ ∙ ap (λ t. written t (a .out .now)) (slot-posted _ (held (a .s)) _ _ _ _ counted (c .before .before .before .before .post-and-slot .ensures)),
       (omega (arith, c .before .before .tell .ensures .1 .0, there), c .before .before .tell .ensures .1 .1),
     )
 
-pub play-slot-spec : {M : Type 1} → statement M
-play-slot-spec =
+pub slot-step-spec : {M : Type 1} → statement M
+slot-step-spec =
     tie.close
     (tie.spec
     slice-aggregate-count
@@ -90,8 +90,8 @@ play-slot-spec =
     refuse-requires
     enum-known-answer-2
     array-share-prefix-counts
-    slice-aggregate-play
-    play-requires
+    slice-aggregate-post-and-slot
+    post-and-slot-requires
     tell-requires
     same-length
     returns

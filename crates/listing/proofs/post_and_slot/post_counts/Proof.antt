@@ -1,4 +1,4 @@
--- `listing::playing::post_counts` meets its contract. The loop's invariant: what is left to post comes to the same as all of it. Assumes nothing.
+-- `listing::post_and_slot::post_counts` meets its contract. The loop's invariant: what is left to post comes to the same as all of it. Assumes nothing.
 use mathlib.Core.Path.{ap}
 use Prim.Native.Nat.{_-_}
 use native.Mathlib.Omega.{arith}
@@ -8,8 +8,8 @@ use Rattle.terms.specs.Limits.{maxPlaces}
 use Rattle.arbiter.specs.ByValue.{held}
 use Rattle.terms.specs.Answers.{postAnswerOf}
 use Rattle.listing.proofs.Posting.{Posting, posting-none, posting-next, posting-stop, posting-end}
-use Rattle.listing.proofs.playing.post_counts.Statement.{statement}
-use Rattle.listing.proofs.playing.post_counts.Tie as tie
+use Rattle.listing.proofs.post_and_slot.post_counts.Statement.{statement}
+use Rattle.listing.proofs.post_and_slot.post_counts.Tie as tie
 
 abbrev Inv-loop : tie.InvT-loop
 Inv-loop counts state₀ p₀ state p = Posting maxPlaces (held state₀) counts (held state) p

@@ -11,7 +11,7 @@ ghost use mathlib.Core.Path.{_≡_};
 ghost use Rattle.terms.specs.Limits.{maxPlaces};
 ghost use Rattle.arbiter.specs.ByValue.{held};
 ghost use Rattle.calls.specs.ByValue.{postResultOf, slotResultOf};
-ghost use Rattle.listing.specs.Listing.{posted, played};
+ghost use Rattle.listing.specs.Listing.{posted, postAndSlot};
 
 // The counts are posted from place 0 on, until one is refused.
 fn post_counts(s: Arbiter, counts: &[u32]) -> PostResult
@@ -41,8 +41,8 @@ fn post_counts(s: Arbiter, counts: &[u32]) -> PostResult
 }
 
 // The counts are posted, and then the slot is done.
-pub(crate) fn play(s: Arbiter, counts: &[u32]) -> SlotResult
-    ensures { λ r. ⌜ slotResultOf r ≡ played maxPlaces (held s) (now (counts .entry)) ⌝ }
+pub(crate) fn post_and_slot(s: Arbiter, counts: &[u32]) -> SlotResult
+    ensures { λ r. ⌜ slotResultOf r ≡ postAndSlot maxPlaces (held s) (now (counts .entry)) ⌝ }
 {
     let posted = post_counts(s, counts);
     let ready = posted.state;
