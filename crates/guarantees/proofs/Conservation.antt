@@ -14,7 +14,7 @@ use Rattle.terms.proofs.Sound.{Sound, opening-backlog}
 use Rattle.rule.specs.Calls.{Call, post, slot, grantOf, advanced, ruled}
 use Rattle.rule.proofs.Head.{slotted}
 use Rattle.guarantees.specs.Counts.{grantsTo}
-use Rattle.guarantees.specs.Conservation.{brought, broughtTo, Conservation}
+use Rattle.guarantees.specs.Conservation.{arrivals, arrivalsTo, Conservation}
 use Rattle.guarantees.proofs.Grants.{grantTo, grant-to}
 use Rattle.rule.proofs.Slots.{slotted-backlog}
 use Rattle.guarantees.proofs.Step.{by-kind, post-place, posted-backlog}
@@ -22,26 +22,26 @@ use Rattle.rule.proofs.Kept.{accounts-cover}
 use Rattle.guarantees.proofs.Sound.{sound-next}
 use Rattle.guarantees.proofs.Start.{opening-sound, entered-ruled, answered-ruled}
 
-brought-refused : (p : ℕ) (c : Call) (r : Refusal) → brought p c (refused r) ≡ 0
-unfolding brought
-brought-refused p (post q count) r = refl
-brought-refused p slot r = refl
+arrivals-refused : (p : ℕ) (c : Call) (r : Refusal) → arrivals p c (refused r) ≡ 0
+unfolding arrivals
+arrivals-refused p (post q count) r = refl
+arrivals-refused p slot r = refl
 
 -- one call
 pub conserved-next : (limit p : ℕ) (s : State) (c : Call) → Sound limit s
-    → brought p c (ruled s c .answer) + backlog (accountAt p (s .accounts))
+    → arrivals p c (ruled s c .answer) + backlog (accountAt p (s .accounts))
     ≡ grantTo p (ruled s c .answer) + backlog (accountAt p (ruled s c .state .accounts))
-unfolding brought advanced grantOf slotted
-conserved-next limit p s c v = by-kind (λ c u a. brought p c a + backlog (accountAt p (s .accounts)) ≡ grantTo p a + backlog (accountAt p (u .accounts))) s c
-    (λ r e. omega (arith, brought-refused p c r))
+unfolding arrivals advanced grantOf slotted
+conserved-next limit p s c v = by-kind (λ c u a. arrivals p c a + backlog (accountAt p (s .accounts)) ≡ grantTo p a + backlog (accountAt p (u .accounts))) s c
+    (λ r e. omega (arith, arrivals-refused p c r))
     (λ q count e. omega (arith, posted-backlog s p q count (omega (arith, post-place s q count e, accounts-cover limit s v))))
     (λ e. omega (arith, grant-to p (s .slot .0) (grantOf s), slotted-backlog (s .table .denominator) p (requestorsOf (s .table)) (s .accounts)))
 
 -- any calls, from any sound state
 pub conserved : (limit p : ℕ) (s : State) (calls : List Call) → Sound limit s
-    → broughtTo p calls (answers ruled s calls) + backlog (accountAt p (s .accounts))
+    → arrivalsTo p calls (answers ruled s calls) + backlog (accountAt p (s .accounts))
     ≡ grantsTo p (answers ruled s calls) + backlog (accountAt p (end ruled s calls .accounts))
-unfolding end answers broughtTo total
+unfolding end answers arrivalsTo total
 conserved limit p s [] v = refl
 conserved limit p s (c ∷ calls) v = omega (arith, conserved-next limit p s c v, conserved limit p (ruled s c .state) calls (sound-next limit s c v))
 

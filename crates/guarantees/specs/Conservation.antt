@@ -11,21 +11,21 @@ use Rattle.rule.specs.Calls.{Call, post, slot}
 use Rattle.guarantees.specs.Counts.{grantsTo, Accepted, startState, stateAfter, answersFrom}
 
 -- the transfers that a call with this answer brought to place p
-unfoldable pub brought : ℕ → Call → Answer → ℕ
-brought p slot a = 0
-brought p (post i count) accepted = pick (eqb i p) count 0
-brought p (post i count) (granted stamp q) = 0
-brought p (post i count) (idle stamp) = 0
-brought p (post i count) (refused r) = 0
+unfoldable pub arrivals : ℕ → Call → Answer → ℕ
+arrivals p slot a = 0
+arrivals p (post i count) accepted = pick (eqb i p) count 0
+arrivals p (post i count) (granted stamp q) = 0
+arrivals p (post i count) (idle stamp) = 0
+arrivals p (post i count) (refused r) = 0
 
 -- the transfers accepted in posts to place p, along a list of calls and their answers
-unfoldable pub broughtTo : ℕ → List Call → List Answer → ℕ
-broughtTo p [] answered = 0
-broughtTo p (c ∷ cs) [] = 0
-broughtTo p (c ∷ cs) (a ∷ answered) = brought p c a + broughtTo p cs answered
+unfoldable pub arrivalsTo : ℕ → List Call → List Answer → ℕ
+arrivalsTo p [] answered = 0
+arrivalsTo p (c ∷ cs) [] = 0
+arrivalsTo p (c ∷ cs) (a ∷ answered) = arrivals p c a + arrivalsTo p cs answered
 
 abbrev pub Conservation : Type 0
 Conservation = (limit : ℕ) (t : Table) (first : ℕ) → Accepted limit t first → (calls : List Call) (p : ℕ)
-    → broughtTo p calls (answersFrom limit (startState limit t first) calls)
+    → arrivalsTo p calls (answersFrom limit (startState limit t first) calls)
     ≡ grantsTo p (answersFrom limit (startState limit t first) calls)
     + backlog (accountAt p (stateAfter limit t first calls .accounts))
