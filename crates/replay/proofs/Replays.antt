@@ -27,15 +27,15 @@ use Rattle.arbiter.specs.declared.state.Arbiter.{Arbiter}
 use Rattle.arbiter.specs.ByValue.{held, startResultOf}
 use Rattle.rule.specs.Calls.{post, slot, called}
 use Rattle.replay.specs.declared.Words.{Words}
-use Rattle.replay.specs.declared.Made.{Made}
-use Rattle.replay.specs.Replay.{callOf, callsOf, madeCalls, answerWords, wordsOf, afterCalls, callsFrom, continued, replay, replayedOf, listed, Makes}
+use Rattle.replay.specs.declared.Executed.{Executed}
+use Rattle.replay.specs.Replay.{callOf, callsOf, madeCalls, answerWords, wordsOf, afterCalls, callsFrom, continued, replay, replayedOf, listed, Executes}
 
 -- ---- one call
 
 -- a call whose answer is told by these three numbers
-pub makes : (next : Arbiter) (w : Words) (a : Answer) (r : Result State Answer) → _≡_ {A = Result State Answer} (record { state = held next; answer = a }) r
-    → listed w ≡ answerWords a → Makes (record { state = next; words = w }) r
-makes next w a r e f = record {
+pub executes : (next : Arbiter) (w : Words) (a : Answer) (r : Result State Answer) → _≡_ {A = Result State Answer} (record { state = held next; answer = a }) r
+    → listed w ≡ answerWords a → Executes (record { state = next; words = w }) r
+executes next w a r e f = record {
   state = ap (λ (x : Result State Answer). x .state) e;
   words = f ∙ ap (λ (x : Result State Answer). answerWords (x .answer)) e;
 }
@@ -143,10 +143,10 @@ module _ (limit : ℕ) (calls old : List ℕ) (s : State) (n : ℕ) where
       omega (arith, length-words answered, length-answers (called limit) s (take i (callsOf calls)), length-take-le i (callsOf calls) inside)
 
   -- one call more, on the state that the one before handed back
-  pub standing-more : (words : List ℕ) (state : State) (i : ℕ) (m : Made) → Standing limit calls old s n words state i → i < n
-      → Makes m (called limit state (callOf (getD calls (3 * i) 0) (getD calls (3 * i + 1) 0) (getD calls (3 * i + 2) 0)))
+  pub standing-more : (words : List ℕ) (state : State) (i : ℕ) (m : Executed) → Standing limit calls old s n words state i → i < n
+      → Executes m (called limit state (callOf (getD calls (3 * i) 0) (getD calls (3 * i + 1) 0) (getD calls (3 * i + 2) 0)))
       → Standing limit calls old s n (set (set (set words (3 * i) (m .words .0)) (3 * i + 1) (m .words .1)) (3 * i + 2) (m .words .2)) (held (m .state)) (i + 1)
-  standing-more words state i m g h made =
+  standing-more words state i m g h executed =
       let call = callOf (getD calls (3 * i) 0) (getD calls (3 * i + 1) 0) (getD calls (3 * i + 2) 0) in
       let before = take i (callsOf calls) in
       let answered = answers (called limit) s before in
@@ -158,11 +158,11 @@ module _ (limit : ℕ) (calls old : List ℕ) (s : State) (n : ℕ) where
         calls-fit = bound;
         answers-fit = room;
         same-length = simp length-set (g .same-length);
-        after = made .state ∙ ap (λ (x : State). called limit x call .state) (g .after) ∙ sym (ap (end (called limit) s) next ∙ end-more (called limit) s before call);
+        after = executed .state ∙ ap (λ (x : State). called limit x call .state) (g .after) ∙ sym (ap (end (called limit) s) next ∙ end-more (called limit) s before call);
         written =
             ap (λ (l : List ℕ). set (set (set l (3 * i) (m .words .0)) (3 * i + 1) (m .words .1)) (3 * i + 2) (m .words .2)) (g .written)
             ∙ written-more (wordsOf answered) old (3 * i) (m .words .0) (m .words .1) (m .words .2) (length-so-far i (omega arith)) (omega arith)
-            ∙ ap (λ (l : List ℕ). writtenOver (wordsOf answered ++ l) old) (made .words ∙ ap (λ (x : State). answerWords (called limit x call .answer)) (g .after))
+            ∙ ap (λ (l : List ℕ). writtenOver (wordsOf answered ++ l) old) (executed .words ∙ ap (λ (x : State). answerWords (called limit x call .answer)) (g .after))
             ∙ ap (λ (l : List ℕ). writtenOver l old) (sym (joined-more answerWords answered (called limit (end (called limit) s before) call .answer)))
             ∙ ap (λ (l : List Answer). writtenOver (wordsOf l) old) (sym (ap (answers (called limit) s) next ∙ answers-more (called limit) s before call));
       }

@@ -16,7 +16,7 @@ use Rattle.terms.specs.Start.{start}
 use Rattle.arbiter.specs.ByValue.{held}
 use Rattle.rule.specs.Calls.{Call, post, slot, called}
 use Rattle.replay.specs.declared.Words.{Words}
-use Rattle.replay.specs.declared.Made.{Made}
+use Rattle.replay.specs.declared.Executed.{Executed}
 
 -- a call is three numbers: what it is (0: a slot; anything else: a post), the place, the count; a slot passes over the last two
 unfoldable pub callOf : (what place count : ℕ) → Call
@@ -82,6 +82,6 @@ abbrev pub listed : Words → List ℕ
 listed w = w .0 ∷ w .1 ∷ w .2 ∷ []
 
 -- the code made a call: the state that the call hands back, and the numbers of its answer
-pub record Makes (m : Made) (r : Result State Answer) : Type 0 where
+pub record Executes (m : Executed) (r : Result State Answer) : Type 0 where
   pub state : held (m .state) ≡ r .state
   pub words : listed (m .words) ≡ answerWords (r .answer)

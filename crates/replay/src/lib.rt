@@ -18,13 +18,13 @@ ghost use Rattle.terms.specs.Refusals.{refusalOf};
 ghost use Rattle.terms.specs.Answers.{refused};
 ghost use Rattle.arbiter.specs.ByValue.{held, given};
 ghost use Rattle.rule.specs.Calls.{post, slot, called};
-ghost use Rattle.replay.specs.Replay.{callOf, answerWords, afterCalls, callsFrom, replay, replayedOf, listed, Makes};
+ghost use Rattle.replay.specs.Replay.{callOf, answerWords, afterCalls, callsFrom, replay, replayedOf, listed, Executes};
 
 // An answer as three numbers.
 struct Words(u64, u64, u64);
 
 // What one call came to.
-struct Made {
+struct Executed {
     state: Arbiter,
     words: Words,
 }
@@ -37,53 +37,53 @@ fn refusal_words(c: Cause) -> Words
     Words(3, r.number as u64, 0)
 }
 
-fn make_post(s: Arbiter, place: u32, count: u32) -> Made
-    ensures { λ m. ⌜ Makes m (called maxPlaces (held s) (post place count)) ⌝ }
+fn execute_post(s: Arbiter, place: u32, count: u32) -> Executed
+    ensures { λ m. ⌜ Executes m (called maxPlaces (held s) (post place count)) ⌝ }
 {
     let r = post(s, place as usize, Transfers(count as u64));
     let next = r.state;
     let a = r.answer;
     match a {
-        PostAnswer::Accepted => Made {
+        PostAnswer::Accepted => Executed {
             state: next,
             words: Words(0, 0, 0),
         },
-        PostAnswer::Refused(c) => Made {
+        PostAnswer::Refused(c) => Executed {
             state: next,
             words: refusal_words(c),
         },
     }
 }
 
-fn make_slot(s: Arbiter) -> Made
-    ensures { λ m. ⌜ Makes m (called maxPlaces (held s) slot) ⌝ }
+fn execute_slot(s: Arbiter) -> Executed
+    ensures { λ m. ⌜ Executes m (called maxPlaces (held s) slot) ⌝ }
 {
     let r = slot(s);
     let next = r.state;
     let a = r.answer;
     match a {
-        SlotAnswer::Granted(stamp, p) => Made {
+        SlotAnswer::Granted(stamp, p) => Executed {
             state: next,
             words: Words(1, stamp.0, p as u64),
         },
-        SlotAnswer::Idle(stamp) => Made {
+        SlotAnswer::Idle(stamp) => Executed {
             state: next,
             words: Words(2, stamp.0, 0),
         },
-        SlotAnswer::Refused(c) => Made {
+        SlotAnswer::Refused(c) => Executed {
             state: next,
             words: refusal_words(c),
         },
     }
 }
 
-fn make_call(s: Arbiter, what: u32, place: u32, count: u32) -> Made
-    ensures { λ m. ⌜ Makes m (called maxPlaces (held s) (callOf what place count)) ⌝ }
+fn execute_call(s: Arbiter, what: u32, place: u32, count: u32) -> Executed
+    ensures { λ m. ⌜ Executes m (called maxPlaces (held s) (callOf what place count)) ⌝ }
 {
     if what == 0 {
-        make_slot(s)
+        execute_slot(s)
     } else {
-        make_post(s, place, count)
+        execute_post(s, place, count)
     }
 }
 
@@ -100,7 +100,7 @@ fn calls_with_room(numbers: usize, room: usize) -> usize
 }
 
 // Every call that its answer has room for. A loop and no recursion: a list may be long, and each turn would keep a state.
-fn make_calls(s: Arbiter, calls: &[u32], answers: &mut [u64]) -> Arbiter
+fn execute_calls(s: Arbiter, calls: &[u32], answers: &mut [u64]) -> Arbiter
     ensures { λ r. ⌜ afterCalls (held r) (now (answers .exit)) ≡ callsFrom maxPlaces (held s) (now (calls .entry)) (now (answers .entry)) ⌝ }
 {
     let n = calls_with_room(calls.len(), answers.len());
@@ -108,12 +108,12 @@ fn make_calls(s: Arbiter, calls: &[u32], answers: &mut [u64]) -> Arbiter
     let mut i: usize = 0;
     while i < n {
         let at = 3 * i;
-        let made = make_call(state, calls[at], calls[at + 1], calls[at + 2]);
-        let w = made.words;
+        let executed = execute_call(state, calls[at], calls[at + 1], calls[at + 2]);
+        let w = executed.words;
         answers[at] = w.0;
         answers[at + 1] = w.1;
         answers[at + 2] = w.2;
-        let next = made.state;
+        let next = executed.state;
         state = next;
         i = i + 1;
     }
@@ -133,7 +133,7 @@ pub fn replay(t: Table, first: Slots, calls: &[u32], answers: &mut [u64]) -> Sta
     match a {
         StartAnswer::Refused(_) => begun,
         StartAnswer::Started => StartResult {
-            state: make_calls(s, calls, answers),
+            state: execute_calls(s, calls, answers),
             answer: StartAnswer::Started,
         },
     }

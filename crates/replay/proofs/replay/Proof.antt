@@ -15,8 +15,8 @@ enum-told c = search needs
 enum-told-2 : tie.Need-enum-told-2
 enum-told-2 c = search needs
 
-make-calls-requires : tie.Need-make-calls-requires
-make-calls-requires c κs = search needs
+execute-calls-requires : tie.Need-execute-calls-requires
+execute-calls-requires c κs = search needs
 
 returns : tie.Need-returns
 returns c =
@@ -31,8 +31,8 @@ returns-2 : tie.Need-returns-2
 returns-2 c =
     let a = c .before .before .before .before .before .before .before .before .before .before .args in
     let begun = c .before .before .before .before .before .before .before .start in
-    let made = c .before .before .make-calls in
-    replay-started maxPlaces (given (a .t)) (a .first .0) (a .calls .now) (a .answers .now) (begun .result) (begun .ensures) (held (made .result)) _ (c .before .before .before .before .enum-told2 .given .1) (made .ensures)
+    let executed = c .before .before .execute-calls in
+    replay-started maxPlaces (given (a .t)) (a .first .0) (a .calls .now) (a .answers .now) (begun .result) (begun .ensures) (held (executed .result)) _ (c .before .before .before .before .enum-told2 .given .1) (executed .ensures)
 
 pub replay-spec : {M : Type 1} → statement M
 replay-spec =
@@ -41,7 +41,7 @@ replay-spec =
     start-requires
     enum-told
     enum-told-2
-    make-calls-requires
+    execute-calls-requires
     returns
     same-length
     returns-2)

@@ -1,4 +1,4 @@
--- `replay::make_calls` meets its contract. The loop's invariant, `Standing`: state and lent numbers are those of the run of the first i calls. Assumes nothing.
+-- `replay::execute_calls` meets its contract. The loop's invariant, `Standing`: state and lent numbers are those of the run of the first i calls. Assumes nothing.
 use Prim.Native.Nat.{_-_}
 use native.Mathlib.Omega.{arith}
 use borrow.Author.Needs.{needs}
@@ -6,8 +6,8 @@ use lib.ListN.{length-set}
 use Rattle.terms.specs.Limits.{maxPlaces}
 use Rattle.arbiter.specs.ByValue.{held}
 use Rattle.replay.proofs.Replays.{Standing, standing-first, standing-more, standing-last}
-use Rattle.replay.proofs.make_calls.Statement.{statement}
-use Rattle.replay.proofs.make_calls.Tie as tie
+use Rattle.replay.proofs.execute_calls.Statement.{statement}
+use Rattle.replay.proofs.execute_calls.Tie as tie
 
 -- after i calls the state and the lent answers are those of the run of the first i calls
 abbrev Inv-loop : tie.InvT-loop
@@ -26,32 +26,32 @@ loop-holds c = standing-first maxPlaces _ _ _ _ (c .calls-with-room .ensures)
 mul-at : tie.Need-mul-at Inv-loop μ-loop
 mul-at c = omega arith
 
-mul-make-call : tie.Need-mul-make-call Inv-loop μ-loop
-mul-make-call c = omega arith
+mul-execute-call : tie.Need-mul-execute-call Inv-loop μ-loop
+mul-execute-call c = omega arith
 
-shared-slice-read-make-call : tie.Need-shared-slice-read-make-call Inv-loop μ-loop
-shared-slice-read-make-call c = omega arith
+shared-slice-read-execute-call : tie.Need-shared-slice-read-execute-call Inv-loop μ-loop
+shared-slice-read-execute-call c = omega arith
 
-add-make-call : tie.Need-add-make-call Inv-loop μ-loop
-add-make-call c = omega arith
+add-execute-call : tie.Need-add-execute-call Inv-loop μ-loop
+add-execute-call c = omega arith
 
-mul-make-call-2 : tie.Need-mul-make-call-2 Inv-loop μ-loop
-mul-make-call-2 c = omega arith
+mul-execute-call-2 : tie.Need-mul-execute-call-2 Inv-loop μ-loop
+mul-execute-call-2 c = omega arith
 
-shared-slice-read-make-call-2 : tie.Need-shared-slice-read-make-call-2 Inv-loop μ-loop
-shared-slice-read-make-call-2 c = omega arith
+shared-slice-read-execute-call-2 : tie.Need-shared-slice-read-execute-call-2 Inv-loop μ-loop
+shared-slice-read-execute-call-2 c = omega arith
 
-add-make-call-2 : tie.Need-add-make-call-2 Inv-loop μ-loop
-add-make-call-2 c = omega arith
+add-execute-call-2 : tie.Need-add-execute-call-2 Inv-loop μ-loop
+add-execute-call-2 c = omega arith
 
-mul-make-call-3 : tie.Need-mul-make-call-3 Inv-loop μ-loop
-mul-make-call-3 c = omega arith
+mul-execute-call-3 : tie.Need-mul-execute-call-3 Inv-loop μ-loop
+mul-execute-call-3 c = omega arith
 
-shared-slice-read-make-call-3 : tie.Need-shared-slice-read-make-call-3 Inv-loop μ-loop
-shared-slice-read-make-call-3 c = omega arith
+shared-slice-read-execute-call-3 : tie.Need-shared-slice-read-execute-call-3 Inv-loop μ-loop
+shared-slice-read-execute-call-3 c = omega arith
 
-make-call-requires : tie.Need-make-call-requires Inv-loop μ-loop
-make-call-requires c κs = search needs
+execute-call-requires : tie.Need-execute-call-requires Inv-loop μ-loop
+execute-call-requires c κs = search needs
 
 mul-answers : tie.Need-mul-answers Inv-loop μ-loop
 mul-answers c = omega arith
@@ -88,8 +88,8 @@ loop-again c =
     let a = c .before .before .before .before .before .before .before .before .before .before .before .args in
     let turn = c .before .before .before .before .before .before in
     let l = turn .before .loop in
-    let made = c .before .before .make-call in
-    standing-more maxPlaces (a .calls .now) (a .answers .now) (held (a .s)) _ (l .answers) (held (l .state)) (l .i) (made .result) (l .inv) (turn .loop-test .taken) (made .ensures)
+    let executed = c .before .before .execute-call in
+    standing-more maxPlaces (a .calls .now) (a .answers .now) (held (a .s)) _ (l .answers) (held (l .state)) (l .i) (executed .result) (l .inv) (turn .loop-test .taken) (executed .ensures)
 
 same-length : tie.Need-same-length Inv-loop μ-loop
 same-length c = c .before .loop .inv .same-length
@@ -97,8 +97,8 @@ same-length c = c .before .loop .inv .same-length
 returns : tie.Need-returns Inv-loop μ-loop
 returns c = standing-last maxPlaces _ _ _ _ _ _ (c .before .loop .i) (c .before .loop .inv) (c .loop-test .left) (c .before .before .calls-with-room .ensures)
 
-pub make-calls-spec : {M : Type 1} → statement M
-make-calls-spec =
+pub execute-calls-spec : {M : Type 1} → statement M
+execute-calls-spec =
     tie.close
     (tie.spec
     Inv-loop
@@ -106,15 +106,15 @@ make-calls-spec =
     calls-with-room-requires
     loop-holds
     mul-at
-    mul-make-call
-    shared-slice-read-make-call
-    add-make-call
-    mul-make-call-2
-    shared-slice-read-make-call-2
-    add-make-call-2
-    mul-make-call-3
-    shared-slice-read-make-call-3
-    make-call-requires
+    mul-execute-call
+    shared-slice-read-execute-call
+    add-execute-call
+    mul-execute-call-2
+    shared-slice-read-execute-call-2
+    add-execute-call-2
+    mul-execute-call-3
+    shared-slice-read-execute-call-3
+    execute-call-requires
     mul-answers
     slice-write-answers
     add-answers
