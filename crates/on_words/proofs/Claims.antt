@@ -45,7 +45,7 @@ use Rattle.outcomes.specs.Outcomes.{refusalCode, answerCode, wrongLength}
 use Rattle.outcomes.specs.Places.{ofAnyCall, AmongRefusals}
 use Rattle.outcomes.proofs.Places.{table-any, state-any, chain-any, code-apart, start-names-below, table-start-names-below, calls-name-below, runs-name-below, leads-name-below, figures-name-below, chains-name-below, write-names-below, looks-name-below, standings-name-below}
 use Rattle.justrave.specs.Exported.{onState, Stated, posted, slotWords, Slotted, slotted, Ran, ran, leaves, started, startedOf, Figured, figuresOutput, figured, chainOutput, chained, lookOutput, accountExported, stands, standingExported, leadOutput, Led, led, Wrote, writeOutput, wrote}
-use Rattle.on_words.specs.Claims.{Fits, Post-by-value, Start-by-value, Starts-agree, Slot-by-value, Run-by-value, Figures-by-value, Chain-by-value, Account-by-value, Standing-by-value, Lead-by-value, Write-by-value, lentCall, lastOutput, In-a-row, Exactly-255, Lengths, Wrong-length, Broken, Broken-words, Start-shaped, Start-of-numbers-shaped, Refused, Clears, Post-refused, Slot-refused, Run-refused, Figures-refused, Chain-refused, Account-refused, Standing-refused, Lead-refused, Write-refused, Start-refused, Start-of-numbers-refused}
+use Rattle.on_words.specs.Claims.{Fits, Post-by-value, Start-by-value, Starts-agree, Slot-by-value, Run-by-value, Figures-by-value, Chain-by-value, Account-by-value, Standing-by-value, Lead-by-value, Write-by-value, callOnBuffers, lastOutput, In-a-row, Exactly-255, Lengths, Wrong-length, Broken, Broken-words, Start-shaped, Start-of-numbers-shaped, Refused, Clears, Post-refused, Slot-refused, Run-refused, Figures-refused, Chain-refused, Account-refused, Standing-refused, Lead-refused, Write-refused, Start-refused, Start-of-numbers-refused}
 
 and-one : (b : Bool) → (b && true) ≡ b
 and-one true = refl
@@ -124,7 +124,7 @@ module _ (most room : ℕ) where
   call-fits s c v = record { shaped = call-shaped room s c (v .shaped); some = v .some; few = v .few }
 
   one-call : (s : State) (c : Call) (old : List ℕ) → Fits most room s → length old ≡ 2
-      → lentCall most (record { words = stateWords s; answer = old }) c
+      → callOnBuffers most (record { words = stateWords s; answer = old }) c
       ≡ record { state = record { words = stateWords (called room s c .state); answer = slotWords old (called room s c .answer) }; answer = answerCode (called room s c .answer) }
   unfolding called
   one-call s (post p count) old v two =

@@ -24,7 +24,7 @@ use Rattle.layout.proofs.RoundTrip.{right, words-shaped, state-written-back, wo
 use Rattle.layout.proofs.Stores.{same-room, right-stands}
 use Rattle.outcomes.specs.Outcomes.{refusalCode}
 use Rattle.justrave.specs.Exported.{onState, posted, slotted, ran, leaves, started, startedOf, Figured, figured, chainOutput, chained, accountExported, standingExported, Led, led, Wrote, wrote}
-use Rattle.on_words.specs.Claims.{Lent, lentCall}
+use Rattle.on_words.specs.Claims.{Buffers, callOnBuffers}
 use Rattle.on_words.specs.Room.{more, Unless-2, stated-more, slotted-more, ran-more, Alike, Any-room, Any-room-in-a-row}
 use Rattle.on_words.proofs.Claims.{numbers-rows, start-shaped, start-of-numbers-shaped}
 use Rattle.on_words.proofs.Longer.{longer-words}
@@ -111,33 +111,33 @@ any-room old-most most extra words long few = all-alike old-most most extra word
 -- ---- in a row
 
 -- a call leaves as many words
-module _ (most : ℕ) (lent : Lent) (long : rightLength most (lent .words) ≡ true) where
+module _ (most : ℕ) (buffers : Buffers) (long : rightLength most (buffers .words) ≡ true) where
   abbrev there : ℕ
-  there = roomOf (lent .words)
+  there = roomOf (buffers .words)
 
-  after-call : (c : Call) → length (stateWords (called there (stateOf (lent .words)) c .state)) ≡ length (lent .words)
-  after-call c = length-state there _ (call-shaped there _ c (words-shaped there (lent .words))) ∙ sym (right most (lent .words) long .long)
+  after-call : (c : Call) → length (stateWords (called there (stateOf (buffers .words)) c .state)) ≡ length (buffers .words)
+  after-call c = length-state there _ (call-shaped there _ c (words-shaped there (buffers .words))) ∙ sym (right most (buffers .words) long .long)
 
-  same-length : (c : Call) → length (lentCall most lent c .state .words) ≡ length (lent .words)
+  same-length : (c : Call) → length (callOnBuffers most buffers c .state .words) ≡ length (buffers .words)
   unfolding posted slotted onState
-  same-length (post p count) = cases (rightLength most (lent .words) && true) (λ q. rw q (after-call (post p count))) (λ q. rw q)
-  same-length slot = cases (rightLength most (lent .words) && eqb (length (lent .answer)) 2) (λ q. rw q (after-call slot)) (λ q. rw q)
+  same-length (post p count) = cases (rightLength most (buffers .words) && true) (λ q. rw q (after-call (post p count))) (λ q. rw q)
+  same-length slot = cases (rightLength most (buffers .words) && eqb (length (buffers .answer)) 2) (λ q. rw q (after-call slot)) (λ q. rw q)
 
-abbrev roomy : (extra : ℕ) → Lent → Lent
-roomy extra lent = record { words = more extra (lent .words); answer = lent .answer }
+abbrev roomy : (extra : ℕ) → Buffers → Buffers
+roomy extra buffers = record { words = more extra (buffers .words); answer = buffers .answer }
 
-one-call : (old-most most extra : ℕ) (lent : Lent) (c : Call) → Alike old-most most extra (lent .words)
-    → lentCall most (roomy extra lent) c ≡ (let r = lentCall old-most lent c in record { state = roomy extra (r .state); answer = r .answer })
-one-call old-most most extra lent (post p count) same = rw (same .post p count)
-one-call old-most most extra lent slot same = rw (same .slot (lent .answer))
+one-call : (old-most most extra : ℕ) (buffers : Buffers) (c : Call) → Alike old-most most extra (buffers .words)
+    → callOnBuffers most (roomy extra buffers) c ≡ (let r = callOnBuffers old-most buffers c in record { state = roomy extra (r .state); answer = r .answer })
+one-call old-most most extra buffers (post p count) same = rw (same .post p count)
+one-call old-most most extra buffers slot same = rw (same .slot (buffers .answer))
 
 pub any-room-in-a-row : Any-room-in-a-row
 unfolding end answers
-any-room-in-a-row old-most most extra lent [] long few = (refl, refl)
-any-room-in-a-row old-most most extra lent (c ∷ calls) long few =
-    let next = lentCall old-most lent c .state in
-    let stays = same-length old-most lent long c in
-    let here : roomOf (next .words) ≡ roomOf (lent .words) = same-room (lent .words) (next .words) stays in
-    let rest = any-room-in-a-row old-most most extra next calls (right-stands old-most (lent .words) (next .words) stays long) (omega (arith, here, few)) in
-    let one = one-call old-most most extra lent c (any-room old-most most extra (lent .words) long few) in
-    (rw one (rest .0), rw one (ap (λ l. lentCall old-most lent c .answer ∷ l) (rest .1)))
+any-room-in-a-row old-most most extra buffers [] long few = (refl, refl)
+any-room-in-a-row old-most most extra buffers (c ∷ calls) long few =
+    let next = callOnBuffers old-most buffers c .state in
+    let stays = same-length old-most buffers long c in
+    let here : roomOf (next .words) ≡ roomOf (buffers .words) = same-room (buffers .words) (next .words) stays in
+    let rest = any-room-in-a-row old-most most extra next calls (right-stands old-most (buffers .words) (next .words) stays long) (omega (arith, here, few)) in
+    let one = one-call old-most most extra buffers c (any-room old-most most extra (buffers .words) long few) in
+    (rw one (rest .0), rw one (ap (λ l. callOnBuffers old-most buffers c .answer ∷ l) (rest .1)))

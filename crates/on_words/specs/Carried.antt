@@ -12,7 +12,7 @@ use Rattle.layout.specs.Words.{roomOf}
 use Rattle.carrying.specs.OldWords.{oldRoomOf, oldStateOf}
 use Rattle.carrying.specs.Fits.{fitsInto}
 use Rattle.justrave.specs.Exported.{carriedOver}
-use Rattle.on_words.specs.Claims.{Lent, lentCall, Exactly-255, Clears}
+use Rattle.on_words.specs.Claims.{Buffers, callOnBuffers, Exactly-255, Clears}
 use Rattle.on_words.specs.Room.{more, Alike}
 
 abbrev pub Carry-lengths : Type 0
@@ -42,8 +42,8 @@ Carry-accepted =
 abbrev pub Carried-in-a-row : Type 0
 Carried-in-a-row =
     (old-most most : ℕ) (old words answer : List ℕ) (calls : List Call) → carriedOver old-most most old words .outcome ≡ 0
-    → let kept : Lent = record { words = old; answer = answer } in
-    let over : Lent = record { words = carriedOver old-most most old words .words; answer = answer } in
-    let last = end (lentCall old-most) kept calls in
-    (end (lentCall most) over calls ≡ record { words = more (roomOf words - oldRoomOf old) (last .words); answer = last .answer })
-    × (answers (lentCall most) over calls ≡ answers (lentCall old-most) kept calls)
+    → let kept : Buffers = record { words = old; answer = answer } in
+    let over : Buffers = record { words = carriedOver old-most most old words .words; answer = answer } in
+    let last = end (callOnBuffers old-most) kept calls in
+    (end (callOnBuffers most) over calls ≡ record { words = more (roomOf words - oldRoomOf old) (last .words); answer = last .answer })
+    × (answers (callOnBuffers most) over calls ≡ answers (callOnBuffers old-most) kept calls)

@@ -97,17 +97,17 @@ Write-by-value =
 -- ---- calls in a row
 
 -- what a main loop lends, call after call
-pub record Lent : Type 0 where
+pub record Buffers : Type 0 where
   pub words : List ℕ
   pub answer : List ℕ
 
--- a post or a slot on it, and the outcome; a post is lent no answer
-abbrev pub lentCall : ℕ → Lent → Call → Result Lent ℕ
-lentCall most lent (post p count) =
-    let r = posted most (lent .words) p count in
-    record { state = record { words = r .words; answer = lent .answer }; answer = r .outcome }
-lentCall most lent slot =
-    let r = slotted most (lent .words) (lent .answer) in
+-- a post or a slot on them, and the outcome; a post is lent no answer
+abbrev pub callOnBuffers : ℕ → Buffers → Call → Result Buffers ℕ
+callOnBuffers most buffers (post p count) =
+    let r = posted most (buffers .words) p count in
+    record { state = record { words = r .words; answer = buffers .answer }; answer = r .outcome }
+callOnBuffers most buffers slot =
+    let r = slotted most (buffers .words) (buffers .answer) in
     record { state = record { words = r .words; answer = r .answer }; answer = r .outcome }
 
 -- the lent answer after calls by value that answered so: each slot that was not refused writes over it
@@ -116,14 +116,14 @@ lastOutput old [] = old
 lastOutput old (a ∷ rest) = lastOutput (slotWords old a) rest
 
 -- Any list of posts and slots, refused ones too: the words at the end are those of the state at the end, each outcome is the answer's, and
--- the lent answer is what the last slot told. A run is so many slots (guarantees, RunSlots).
+-- the lent answer is what the last slot put there. A run is so many slots (guarantees, RunSlots).
 abbrev pub In-a-row : Type 0
 In-a-row =
     (most room : ℕ) (s : State) (old : List ℕ) (calls : List Call) → Fits most room s → length old ≡ 2
-    → let lent : Lent = record { words = stateWords s; answer = old } in
+    → let buffers : Buffers = record { words = stateWords s; answer = old } in
     let answered = answers (called room) s calls in
-    (end (lentCall most) lent calls ≡ record { words = stateWords (end (called room) s calls); answer = lastOutput old answered })
-    × (answers (lentCall most) lent calls ≡ map answerCode answered)
+    (end (callOnBuffers most) buffers calls ≡ record { words = stateWords (end (called room) s calls); answer = lastOutput old answered })
+    × (answers (callOnBuffers most) buffers calls ≡ map answerCode answered)
 
 -- the state whose words a start leaves, whatever the bytes or the numbers, is one that the claims above hold for
 abbrev pub Start-shaped : Type 0

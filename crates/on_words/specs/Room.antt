@@ -14,7 +14,7 @@ use Rattle.lists.specs.Runs.{end, answers}
 use Rattle.rule.specs.Calls.{Call}
 use Rattle.layout.specs.Words.{roomOf, rightLength}
 use Rattle.justrave.specs.Exported.{Stated, posted, Slotted, slotted, Ran, ran, started, startedOf, figured, chained, accountExported, standingExported, led, wrote}
-use Rattle.on_words.specs.Claims.{Lent, lentCall}
+use Rattle.on_words.specs.Claims.{Buffers, callOnBuffers}
 
 -- the words with room for so many places more
 abbrev pub more : (extra : ℕ) → List ℕ → List ℕ
@@ -62,8 +62,8 @@ Any-room = (old-most most extra : ℕ) (words : List ℕ) → rightLength old-mo
 -- any list of posts and slots: the words at the end, the lent answer, and each outcome
 abbrev pub Any-room-in-a-row : Type 0
 Any-room-in-a-row =
-    (old-most most extra : ℕ) (lent : Lent) (calls : List Call) → rightLength old-most (lent .words) ≡ true → roomOf (lent .words) + extra ≤ most
-    → let roomy : Lent = record { words = more extra (lent .words); answer = lent .answer } in
-    let last = end (lentCall old-most) lent calls in
-    (end (lentCall most) roomy calls ≡ record { words = more extra (last .words); answer = last .answer })
-    × (answers (lentCall most) roomy calls ≡ answers (lentCall old-most) lent calls)
+    (old-most most extra : ℕ) (buffers : Buffers) (calls : List Call) → rightLength old-most (buffers .words) ≡ true → roomOf (buffers .words) + extra ≤ most
+    → let roomy : Buffers = record { words = more extra (buffers .words); answer = buffers .answer } in
+    let last = end (callOnBuffers old-most) buffers calls in
+    (end (callOnBuffers most) roomy calls ≡ record { words = more extra (last .words); answer = last .answer })
+    × (answers (callOnBuffers most) roomy calls ≡ answers (callOnBuffers old-most) buffers calls)
