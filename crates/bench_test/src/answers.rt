@@ -26,7 +26,7 @@ use groups::reading::Reading;
 use groups::reading::read_number;
 use groups::writing::number_len;
 use groups::writing::write_number;
-use in_place::slot_of_a_loan;
+use in_place::slot_through_reference;
 use ordering::order::order;
 use replay::replay;
 use terms::answers::AccountAnswer;
@@ -113,7 +113,7 @@ pub fn admits(t: Table) {
 
 // The thin form: the slot of a state that is lent.
 pub fn lends(s: Arbiter) {
-    let done = slot_of_a_loan(s);
+    let done = slot_through_reference(s);
     let after = done.state;
     let a = done.answer;
     case(0);

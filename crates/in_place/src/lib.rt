@@ -19,7 +19,7 @@ pub fn slot_in_place(s: &mut Arbiter) -> SlotAnswer
 }
 
 // For a caller that holds the state by value: a local is lent to the thin form and handed back.
-pub fn slot_of_a_loan(s: Arbiter) -> SlotResult
+pub fn slot_through_reference(s: Arbiter) -> SlotResult
     ensures { λ r. ⌜ slotResultOf r ≡ called maxPlaces (held s) slot ⌝ }
 {
     let mut state = s;

@@ -1,4 +1,4 @@
--- `in_place::slot_of_a_loan` meets its contract: a walk of its code in the program logic, by hand. The local that holds the state is
+-- `in_place::slot_through_reference` meets its contract: a walk of its code in the program logic, by hand. The local that holds the state is
 -- lent for a lifetime that is made for the call and passed to the thin form, of which the proof knows only that it meets its
 -- contract; the lifetime is ended, the local comes back at the last value that the contract says, and it goes into the result.
 -- Assumes nothing.
@@ -57,10 +57,10 @@ use Rattle.in_place.proofs.slot_in_place as callee
 use Rattle.in_place.proofs.slot_in_place.Symbol as callee-def
 use Rattle.in_place.proofs.slot_in_place.Symbol.{name as #in-place·slot-in-place}
 use Rattle.in_place.proofs.slot_in_place.Met as callee-thm
-use Rattle.in_place.proofs.slot_of_a_loan.Key.{name as #in-place·slot-of-a-loan}
-use Rattle.in_place.proofs.slot_of_a_loan as self
-use Rattle.in_place.proofs.slot_of_a_loan.Statement as stated
-use Rattle.in_place.proofs.slot_of_a_loan.Code as code
+use Rattle.in_place.proofs.slot_through_reference.Key.{name as #in-place·slot-through-reference}
+use Rattle.in_place.proofs.slot_through_reference as self
+use Rattle.in_place.proofs.slot_through_reference.Statement as stated
+use Rattle.in_place.proofs.slot_through_reference.Code as code
 
 abbrev stayed : Stays (self.ended .signature .params) (self.ended .kept)
 stayed = (stay-none (λ _. T.the-row) yes, tt)
@@ -169,10 +169,10 @@ self-meets : {M : Type 1} (𝓤 : URA M) (H : Heap 𝓤) (A : Atoms 𝓤) (W : G
     → Meets 𝓤 H A self.signature (WpFn 𝓤 H (𝓣 .C) (𝓣 .Λ) code.function) (self.spec 𝓤 H A at-mem run)
 self-meets 𝓤 H A W at-mem run 𝓣 known = walk-meets 𝓤 H A self.ended stayed W (goes-none 𝓤 H A W 0 (λ _. T.the-row) yes (λ κs x f. refl), tt) (self.clauses 𝓤 H A at-mem run) (WpFn 𝓤 H (𝓣 .C) (𝓣 .Λ) code.function) (WpFn-mono 𝓤 H (W .laws) 𝓣 code.function) (self-walks 𝓤 H A W at-mem run (𝓣 .C) (𝓣 .Λ) (fmOf 𝓤 H (W .laws) 𝓣) known)
 
-pub slot-of-a-loan-spec : {M : Type 1} → stated.statement M
+pub slot-through-reference-spec : {M : Type 1} → stated.statement M
 unfolding code.routine tablesOf
-slot-of-a-loan-spec 𝓤 H 𝓜 𝓖 𝓡 =
+slot-through-reference-spec 𝓤 H 𝓜 𝓖 𝓡 =
     entered 𝓤 H (tripleOf 𝓤 H (𝓖 .A) self.signature (self.spec 𝓤 H (𝓖 .A) (𝓜 .mem) (𝓡 .run)))
-    (tables 𝓤 H 𝓜 𝓡 code.env .C) (tables 𝓤 H 𝓜 𝓡 code.env .Λ) #in-place·slot-of-a-loan code.function (code.unfolded 𝓤 H 𝓜 𝓡)
+    (tables 𝓤 H 𝓜 𝓡 code.env .C) (tables 𝓤 H 𝓜 𝓡 code.env .Λ) #in-place·slot-through-reference code.function (code.unfolded 𝓤 H 𝓜 𝓡)
     (self-meets 𝓤 H (𝓖 .A) (givenOf 𝓤 H 𝓜 𝓖) (𝓜 .mem) (𝓡 .run) (tablesOf 𝓤 H 𝓜 (tables 𝓤 H 𝓜 𝓡 code.env))
     (cited 𝓤 H (Callee 𝓤 H (𝓖 .A) (𝓜 .mem) (𝓡 .run)) 𝓜 𝓡 code.env #in-place·slot-in-place callee-def.routine code.calls-in-place·slot-in-place (callee-thm.met 𝓤 H 𝓜 𝓖 𝓡)))
