@@ -20,8 +20,8 @@ module _ (words : List ℕ) (full : length words ≡ wordCount maxPlaces) where
   right-full = rw (room-full, eq-eqb (length words) (wordCount maxPlaces) full)
 
   -- what is asked of a state with the room of its words
-  pub asked-held : {X : Type 0} (f : ℕ → State → X) → f (roomOf words) (stateOf words) ≡ f maxPlaces (stateOf words)
-  asked-held f = ap (λ k. f k (stateOf words)) room-full
+  pub query-held : {X : Type 0} (f : ℕ → State → X) → f (roomOf words) (stateOf words) ≡ f maxPlaces (stateOf words)
+  query-held f = ap (λ k. f k (stateOf words)) room-full
 
 pub held-tells : Held-tells
 held-tells s t full-s full-t e =

@@ -1,11 +1,11 @@
 // The reported wait of a place, and its finish figure for j transfers.
 use arbiter::state::Arbiter;
-use asking::figures::figures_words;
+use queries::figures::figures_words;
 use terms::answers::FiguresAnswer;
 use terms::units::Transfers;
 ghost use mathlib.Core.Path.{_≡_};
 ghost use Rattle.terms.specs.Limits.{maxPlaces};
-ghost use Rattle.terms.specs.Asked.{figures, figuresAnswerOf};
+ghost use Rattle.terms.specs.Queries.{figures, figuresAnswerOf};
 ghost use Rattle.arbiter.specs.ByValue.{held};
 
 // Refused: 23, 11, 5.

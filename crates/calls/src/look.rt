@@ -1,17 +1,17 @@
 // A look into a state: the account of a place, and where the line stands.
 use arbiter::state::Arbiter;
-use asking::look::account_words;
-use asking::look::standing_words;
+use queries::look::account_words;
+use queries::look::standing_words;
 use terms::answers::AccountAnswer;
 use terms::answers::StandingAnswer;
 ghost use mathlib.Core.Path.{_≡_};
 ghost use Rattle.terms.specs.Limits.{maxPlaces};
 ghost use Rattle.arbiter.specs.ByValue.{held};
-ghost use Rattle.asking.specs.Look.{accountAsked, standing, accountAnswerOf, standingAnswerOf};
+ghost use Rattle.queries.specs.Look.{accountQuery, standing, accountAnswerOf, standingAnswerOf};
 
 // Refused: 23, 11.
 pub fn account(s: Arbiter, place: usize) -> AccountAnswer
-    ensures { λ a. ⌜ accountAnswerOf a ≡ accountAsked maxPlaces (held s) place ⌝ }
+    ensures { λ a. ⌜ accountAnswerOf a ≡ accountQuery maxPlaces (held s) place ⌝ }
 {
     let words = s.words;
     account_words(&words, place)

@@ -1,7 +1,7 @@
 // A table as bytes in a lent buffer.
 use arbiter::table::Table;
 use arbiter::table::lay_table;
-use asking::write::admit_and_write;
+use queries::write::admit_and_write;
 use terms::answers::WriteAnswer;
 ghost use mathlib.Core.Path.{_≡_};
 ghost use Rattle.terms.specs.Limits.{maxPlaces};

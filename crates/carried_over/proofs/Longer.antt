@@ -1,4 +1,4 @@
--- A state with clear rows and accounts behind its own: every question about it is answered as about the state. Assumes nothing.
+-- A state with clear rows and accounts behind its own: every query about it is answered as about the state. Assumes nothing.
 use mathlib.Core.Path.{_≡_, _∙_}
 use mathlib.Core.List.{List, _++_}
 use Prim.Native.Nat.{ℕ, _+_, _≤_}
@@ -12,9 +12,9 @@ use Rattle.terms.specs.Chain.{nobody, chainFigure, followingVerdict, chainVerdi
 use Rattle.terms.specs.Longer.{longer}
 use Rattle.terms.proofs.Longer.{getD-clear, same-rows, same-admission, few-places, same-sound, same-place, same-account}
 use Rattle.chains.proofs.Claims.{names-past-unread}
-use Rattle.lead_parts.specs.Lead.{leadVerdict, leadAsked}
+use Rattle.lead_parts.specs.Lead.{leadVerdict, leadQuery}
 use Rattle.table_bytes.specs.Writing.{tableNumbers, tableBytes, writeVerdict, writeTable}
-use Rattle.asking.specs.Look as look
+use Rattle.queries.specs.Look as look
 
 module _ (room extra : ℕ) (s : State) (v : Shaped room s) where
   abbrev big : State
@@ -35,16 +35,16 @@ module _ (room extra : ℕ) (s : State) (v : Shaped room s) where
       names-past-unread room s v p (names ++ past) names (λ i h. List·getD-append names past nobody i (omega arith)))
       (λ q. rw q)
 
-  pub same-look : (p : ℕ) → look.accountAsked (room + extra) big p ≡ look.accountAsked room s p
-  unfolding look.accountAsked
+  pub same-look : (p : ℕ) → look.accountQuery (room + extra) big p ≡ look.accountQuery room s p
+  unfolding look.accountQuery
   same-look p = rw (same-place room extra s v p, same-account room extra s v p)
 
   pub same-standing : look.standing (room + extra) big ≡ look.standing room s
   unfolding look.standing
   same-standing = rw (same-sound room extra s v)
 
-  pub same-lead : (p : ℕ) (log : List ℕ) → leadAsked (room + extra) big p log ≡ leadAsked room s p log
-  unfolding leadAsked leadVerdict
+  pub same-lead : (p : ℕ) (log : List ℕ) → leadQuery (room + extra) big p log ≡ leadQuery room s p log
+  unfolding leadQuery leadVerdict
   same-lead p log = rw (same-place room extra s v p, getD-clear noRequestor (s .table .requestors) extra p)
 
   pub same-write : (buffer : List ℕ) → s .table .count ≤ room → writeTable (room + extra) (big .table) buffer ≡ writeTable room (s .table) buffer

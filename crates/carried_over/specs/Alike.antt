@@ -14,13 +14,13 @@ use Rattle.terms.specs.Answers.{accepted}
 use Rattle.terms.specs.Start.{turnedDown}
 use Rattle.terms.specs.Longer.{longer}
 use Rattle.carrying.specs.Carry.{OldState, asState, kept, carry}
-use Rattle.terms.specs.Asked as asked
+use Rattle.terms.specs.Queries as queries
 use Rattle.terms.specs.Chain as chains
-use Rattle.lead_parts.specs.Lead.{leadAsked}
+use Rattle.lead_parts.specs.Lead.{leadQuery}
 use Rattle.table_bytes.specs.Writing.{writeTable}
 use Rattle.rule.specs.Calls.{Call, called}
 use Rattle.rule.specs.Log.{Outcome, run}
-use Rattle.asking.specs.Look as look
+use Rattle.queries.specs.Look as look
 use Rattle.guarantees.specs.Counts.{Accepted, stateAfter, answersFrom}
 
 -- what a run comes to with zeros put behind its state
@@ -32,12 +32,12 @@ pub record Alike (old new : ℕ) (s t : State) : Type 0 where
   pub behind : t ≡ longer (new - old) s
   -- and so any run, which is so many slots (guarantees, RunSlots)
   pub run : (log : List ℕ) → run new t log ≡ ran-longer (new - old) (run old s log)
-  pub lead : (p : ℕ) (log : List ℕ) → leadAsked new t p log ≡ leadAsked old s p log
-  pub figures : (p j : ℕ) → asked.figures new t p j ≡ asked.figures old s p j
+  pub lead : (p : ℕ) (log : List ℕ) → leadQuery new t p log ≡ leadQuery old s p log
+  pub figures : (p j : ℕ) → queries.figures new t p j ≡ queries.figures old s p j
   pub chain : (p : ℕ) (names : List ℕ) → chains.chain new t p names ≡ chains.chain old s p names
   -- the writer of today on both sides, with 17
   pub write : (buffer : List ℕ) → writeTable new (t .table) buffer ≡ writeTable old (s .table) buffer
-  pub account : (p : ℕ) → look.accountAsked new t p ≡ look.accountAsked old s p
+  pub account : (p : ℕ) → look.accountQuery new t p ≡ look.accountQuery old s p
   pub standing : look.standing new t ≡ look.standing old s
 
 -- after any list of calls, none included

@@ -14,10 +14,10 @@ use Rattle.terms.specs.Figures.{roundedUp, finish, finishVerdict, admissionVerd
 use Rattle.terms.specs.State.{accountsHold, sound, placeVerdict}
 use Rattle.terms.specs.Start.{opening, noState, startVerdict, start}
 use Rattle.carrying.specs.Carry.{carry}
-use Rattle.terms.specs.Asked.{figuresVerdict, figures}
+use Rattle.terms.specs.Queries.{figuresVerdict, figures}
 use Rattle.terms.specs.Chain.{named, follows, chainTo, chainFigure, nameVerdict, circleVerdict, followingVerdict, chainVerdict, chain}
 use Rattle.terms.specs.Input.{inputVerdict}
-use Rattle.lead_parts.specs.Lead.{leadOf, leadVerdict, leadAsked}
+use Rattle.lead_parts.specs.Lead.{leadOf, leadVerdict, leadQuery}
 use Rattle.table_bytes.specs.Reading.{next, fieldRead, rowFieldsRead, rowRead, itemsRead, lastVerdict, settled, readTable, placesBy, numbersBy}
 use Rattle.table_bytes.specs.Writing.{tableNumbers, tableBytes, writeVerdict, writeTable}
 use Rattle.rule.specs.Rule.{eligible, later, firstEligible, served, passed, after}
@@ -45,5 +45,5 @@ use Rattle.cases.specs.NeedRows.{tableTwo, tableLastPair, tableBasinWith
 use Rattle.cases.specs.Cases.{All-pass}
 
 pub all-pass : All-pass
-unfolding total joined every upTo Runs.end Runs.answers lastGroup combined laterGroups numberOf groupsOf numberBytes numberWritten gate then heldTo fieldsVerdict eachPlace tailVerdict rateSumVerdict needFits needFitsVerdict offeredRowVerdict verdictBy roundedUp finish finishVerdict admissionVerdict accountsHold sound placeVerdict opening noState startVerdict start next fieldRead rowFieldsRead rowRead itemsRead placesBy numbersBy lastVerdict settled readTable tableNumbers tableBytes writeVerdict writeTable figuresVerdict figures inputVerdict leadOf leadVerdict leadAsked slotsState slotsLog slotsVerdict runVerdict run eligible later firstEligible served passed after grantOf advanced withCount withPost done ruleVerdict called callOf callsOf madeCalls answerWords writtenOver callsFrom continued replay toPlace padded rowsOf tableOf stateOf standsAt waitsThroughout reply tableT tableTShort tableRates tableBurst tableDenominator tableFive tableLate threeEach logNine lateCalls bytesT benchRows tableFirst tableSecond tablePastTwo tablePastLast tableLargest tableBlocked limitRows wideRows orderRows stateRows ruleRows replayRows tableLong bytesLong tableFull bytesPlaces tablePast tableWide old marked ratesT burstsT needsT withinsT single unwritten unread numberRows takeRows lendRows readRows writeRows refusedWriteRows changedWriteRows orderedWriteRows startT unsoundT startFull startThree startLast checkRows runRows leadRows figureRows digitsOf decimal spaced line header endLine refusedLine slotLine posted postAndSlot slotOutput slotStep step startRead stateRead begun headed firstStep texts listing headerText listingRows formerFinish formerFinishVerdict formerVerdict tableThirds tableFaster tableTens tableHigh finishRows bind without needHolds lastHolding filledUp order listedVerdict orderRead orderBytes tableThree tableBasin tableGuessed tableAlike withinsRising withinsFalling patient greedy tableWhole searchRows bytesGuessed searchBytesRows named follows chainTo chainFigure nameVerdict circleVerdict followingVerdict chainVerdict chain placesFrom allInOne chainRows circleRows absentRows tableDisplay displayCalls displayRows carry paired tableOneMore bytesOneMore wideTableRows oldOf oldT oldWith oldPast atLast oldFull basinCalls basinBefore basinLog basinLast carryRows sideRows oldUnsoundRows tableTwo tableLastPair tableBasinWith needRows needOrderRows needBytesRows tableThrice thrice needServedRows
+unfolding total joined every upTo Runs.end Runs.answers lastGroup combined laterGroups numberOf groupsOf numberBytes numberWritten gate then heldTo fieldsVerdict eachPlace tailVerdict rateSumVerdict needFits needFitsVerdict offeredRowVerdict verdictBy roundedUp finish finishVerdict admissionVerdict accountsHold sound placeVerdict opening noState startVerdict start next fieldRead rowFieldsRead rowRead itemsRead placesBy numbersBy lastVerdict settled readTable tableNumbers tableBytes writeVerdict writeTable figuresVerdict figures inputVerdict leadOf leadVerdict leadQuery slotsState slotsLog slotsVerdict runVerdict run eligible later firstEligible served passed after grantOf advanced withCount withPost done ruleVerdict called callOf callsOf madeCalls answerWords writtenOver callsFrom continued replay toPlace padded rowsOf tableOf stateOf standsAt waitsThroughout reply tableT tableTShort tableRates tableBurst tableDenominator tableFive tableLate threeEach logNine lateCalls bytesT benchRows tableFirst tableSecond tablePastTwo tablePastLast tableLargest tableBlocked limitRows wideRows orderRows stateRows ruleRows replayRows tableLong bytesLong tableFull bytesPlaces tablePast tableWide old marked ratesT burstsT needsT withinsT single unwritten unread numberRows takeRows lendRows readRows writeRows refusedWriteRows changedWriteRows orderedWriteRows startT unsoundT startFull startThree startLast checkRows runRows leadRows figureRows digitsOf decimal spaced line header endLine refusedLine slotLine posted postAndSlot slotOutput slotStep step startRead stateRead begun headed firstStep texts listing headerText listingRows formerFinish formerFinishVerdict formerVerdict tableThirds tableFaster tableTens tableHigh finishRows bind without needHolds lastHolding filledUp order listedVerdict orderRead orderBytes tableThree tableBasin tableGuessed tableAlike withinsRising withinsFalling patient greedy tableWhole searchRows bytesGuessed searchBytesRows named follows chainTo chainFigure nameVerdict circleVerdict followingVerdict chainVerdict chain placesFrom allInOne chainRows circleRows absentRows tableDisplay displayCalls displayRows carry paired tableOneMore bytesOneMore wideTableRows oldOf oldT oldWith oldPast atLast oldFull basinCalls basinBefore basinLog basinLast carryRows sideRows oldUnsoundRows tableTwo tableLastPair tableBasinWith needRows needOrderRows needBytesRows tableThrice thrice needServedRows
 all-pass = refl

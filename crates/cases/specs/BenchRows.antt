@@ -9,11 +9,11 @@ use lib.ListN.{replicate}
 use Rattle.terms.specs.Table.{Table}
 use Rattle.terms.specs.Refusals.{faultless, fault, refusal, refusalAt}
 use Rattle.terms.specs.Answers.{accepted, granted, idle, refused}
-use Rattle.terms.specs.Asked as asked
+use Rattle.terms.specs.Queries as queries
 use Rattle.lead_parts.specs.Lead.{lead}
 use Rattle.table_bytes.specs.Reading.{read, stop}
 use Rattle.rule.specs.Calls.{Call, post, slot}
-use Rattle.cases.specs.Rows.{row, table, allZero, Row, readingNumber, writingNumber, reading, admission, calling, running, leading, askingFigures, figures, floor, after, standing, number, bytes, read-as, found, told, ran, led, told-figures, figured, floored}
+use Rattle.cases.specs.Rows.{row, table, allZero, Row, readingNumber, writingNumber, reading, admission, calling, running, leading, queryingFigures, figures, floor, after, standing, number, bytes, read-as, found, told, ran, led, told-figures, figured, floored}
 
 -- Table T: D=4; place 0: n=1, b=8, j=1, L=4; place 1: n=1, b=4, j=1, L=7
 unfoldable pub tableT : Table
@@ -62,64 +62,64 @@ bytesT last = 4 ∷ 2 ∷ 1 ∷ 8 ∷ 1 ∷ 4 ∷ 1 ∷ 4 ∷ 1 ∷ last ∷ []
 unfoldable pub benchRows : List Row
 benchRows =
     -- 1: read as T
-    record { asked = reading (bytesT 7); written = read-as accepted tableT }
+    record { query = reading (bytesT 7); written = read-as accepted tableT }
     -- 2: with last byte 06, refused 7, place 1
-    ∷ record { asked = reading (bytesT 6); written = read-as (refused (refusalAt 7 1)) allZero }
+    ∷ record { query = reading (bytesT 6); written = read-as (refused (refusalAt 7 1)) allZero }
     -- 2, as numbers: refused 7, place 1 (wait 3, finish 7)
-    ∷ record { asked = admission tableTShort; written = found (fault (refusalAt 7 1)) }
-    ∷ record { asked = figures tableTShort 1 1; written = figured 8 3 3 7 }
-    ∷ record { asked = admission tableT; written = found faultless }
+    ∷ record { query = admission tableTShort; written = found (fault (refusalAt 7 1)) }
+    ∷ record { query = figures tableTShort 1 1; written = figured 8 3 3 7 }
+    ∷ record { query = admission tableT; written = found faultless }
     -- 3: nine slots log 0 0 1 0 1 255 255 1 255
     ∷ record {
-      asked = calling tableT 0 (threeEach ++ replicate 9 slot);
+      query = calling tableT 0 (threeEach ++ replicate 9 slot);
       written = told accepted
           (accepted ∷ accepted ∷ granted 0 0 ∷ granted 1 0 ∷ granted 2 1 ∷ granted 3 0 ∷ granted 4 1 ∷ idle 5 ∷ idle 6 ∷ granted 7 1 ∷ idle 8 ∷ [])
           (standing 9 (5 ∷ 1 ∷ []) (0 ∷ 0 ∷ []));
     }
     -- 3, as a run over a log of nine bytes
     ∷ record {
-      asked = running (after tableT 0 threeEach) (replicate 9 90);
+      query = running (after tableT 0 threeEach) (replicate 9 90);
       written = ran accepted logNine (standing 9 (5 ∷ 1 ∷ []) (0 ∷ 0 ∷ []));
     }
     -- 5: the leads over case 3's nine bytes are 3 and 3; over the first two bytes place 1 has −2
-    ∷ record { asked = leading (after tableT 0 []) 0 logNine; written = led (lead (pos 3)) }
-    ∷ record { asked = leading (after tableT 0 []) 1 logNine; written = led (lead (pos 3)) }
-    ∷ record { asked = leading (after tableT 0 []) 1 (0 ∷ 0 ∷ []); written = led (lead (negsuc 1)) }
+    ∷ record { query = leading (after tableT 0 []) 0 logNine; written = led (lead (pos 3)) }
+    ∷ record { query = leading (after tableT 0 []) 1 logNine; written = led (lead (pos 3)) }
+    ∷ record { query = leading (after tableT 0 []) 1 (0 ∷ 0 ∷ []); written = led (lead (negsuc 1)) }
     -- 4: after slot 2 of case 3 the credits are 3 and 3
     ∷ record {
-      asked = calling tableT 0 (threeEach ++ replicate 3 slot);
+      query = calling tableT 0 (threeEach ++ replicate 3 slot);
       written = told accepted (accepted ∷ accepted ∷ granted 0 0 ∷ granted 1 0 ∷ granted 2 1 ∷ []) (standing 3 (3 ∷ 3 ∷ []) (1 ∷ 2 ∷ []));
     }
     -- 6: 300 is AC 02; 84 00 is refused 9; FF FF FF FF 0F is 4,294,967,295 and FF FF FF FF 10 is refused 9
-    ∷ record { asked = readingNumber (172 ∷ 2 ∷ []); written = number (read 300 []) }
-    ∷ record { asked = writingNumber 300; written = bytes (172 ∷ 2 ∷ []) }
-    ∷ record { asked = readingNumber (132 ∷ 0 ∷ []); written = number (stop (refusal 9)) }
-    ∷ record { asked = readingNumber (255 ∷ 255 ∷ 255 ∷ 255 ∷ 15 ∷ []); written = number (read 4294967295 []) }
-    ∷ record { asked = writingNumber 4294967295; written = bytes (255 ∷ 255 ∷ 255 ∷ 255 ∷ 15 ∷ []) }
-    ∷ record { asked = readingNumber (255 ∷ 255 ∷ 255 ∷ 255 ∷ 16 ∷ []); written = number (stop (refusal 9)) }
+    ∷ record { query = readingNumber (172 ∷ 2 ∷ []); written = number (read 300 []) }
+    ∷ record { query = writingNumber 300; written = bytes (172 ∷ 2 ∷ []) }
+    ∷ record { query = readingNumber (132 ∷ 0 ∷ []); written = number (stop (refusal 9)) }
+    ∷ record { query = readingNumber (255 ∷ 255 ∷ 255 ∷ 255 ∷ 15 ∷ []); written = number (read 4294967295 []) }
+    ∷ record { query = writingNumber 4294967295; written = bytes (255 ∷ 255 ∷ 255 ∷ 255 ∷ 15 ∷ []) }
+    ∷ record { query = readingNumber (255 ∷ 255 ∷ 255 ∷ 255 ∷ 16 ∷ []); written = number (stop (refusal 9)) }
     -- 7: D=4 with rates 3 and 2 is refused 6; 3 and 1 are not
-    ∷ record { asked = admission (tableRates 3 2); written = found (fault (refusal 6)) }
-    ∷ record { asked = admission (tableRates 3 1); written = found faultless }
+    ∷ record { query = admission (tableRates 3 2); written = found (fault (refusal 6)) }
+    ∷ record { query = admission (tableRates 3 1); written = found faultless }
     -- 8: burst 3 at D=4 is refused 4; burst 4 is not
-    ∷ record { asked = admission (tableBurst 3); written = found (fault (refusalAt 4 0)) }
-    ∷ record { asked = admission (tableBurst 4); written = found faultless }
+    ∷ record { query = admission (tableBurst 3); written = found (fault (refusalAt 4 0)) }
+    ∷ record { query = admission (tableBurst 4); written = found faultless }
     -- 9: backlog 65,535 takes a post of 0 and refuses a post of 1 with 21
     ∷ record {
-      asked = calling tableT 0 (post 0 65535 ∷ post 0 0 ∷ post 0 1 ∷ []);
+      query = calling tableT 0 (post 0 65535 ∷ post 0 0 ∷ post 0 1 ∷ []);
       written = told accepted (accepted ∷ accepted ∷ refused (refusal 21) ∷ []) (standing 0 (8 ∷ 4 ∷ []) (65535 ∷ 0 ∷ []));
     }
     -- 10: a slot numbered two to the power 62 less 1 is done; the next is refused 22
     ∷ record {
-      asked = calling tableT 4611686018427387903 (slot ∷ slot ∷ []);
+      query = calling tableT 4611686018427387903 (slot ∷ slot ∷ []);
       written = told accepted (idle 4611686018427387903 ∷ refused (refusal 22) ∷ []) (standing 4611686018427387904 (8 ∷ 4 ∷ []) (0 ∷ 0 ∷ []));
     }
     -- 11, as request 1 has it: place 1's wait is 2, and its finish for one transfer is 6/4 + 5/2 = 4
-    ∷ record { asked = figures (tableFive 5) 1 1; written = figured 6 4 2 4 }
+    ∷ record { query = figures (tableFive 5) 1 1; written = figured 6 4 2 4 }
     -- 11, asked of a state
-    ∷ record { asked = askingFigures (after (tableFive 5) 0 []) 1 1; written = told-figures (asked.figured 2 4) }
+    ∷ record { query = queryingFigures (after (tableFive 5) 0 []) 1 1; written = told-figures (queries.figured 2 4) }
     -- 12: in slots 0 to 23 place 1 is granted 0, 3 and 7 only: three times, where the source's two-rate line would give six
     ∷ record {
-      asked = calling tableLate 0 (post 1 24 ∷ lateCalls);
+      query = calling tableLate 0 (post 1 24 ∷ lateCalls);
       written = told accepted
           (accepted
           ∷ granted 0 1 ∷ idle 1 ∷ idle 2 ∷ granted 3 1 ∷ idle 4 ∷ idle 5 ∷ idle 6 ∷ granted 7 1 ∷ idle 8 ∷ idle 9 ∷ idle 10 ∷ accepted
@@ -128,12 +128,12 @@ benchRows =
           (standing 24 (1 ∷ 16 ∷ []) (17 ∷ 21 ∷ []));
     }
     -- 12: B = 40, R = 3; the floor gives 36 against 32, and applies: place 1 enters with credit 4 = D and always waits
-    ∷ record { asked = figures tableLate 1 1; written = figured 40 3 14 18 }
-    ∷ record { asked = floor tableLate (post 1 24 ∷ []) lateCalls 1; written = floored 4 true 36 32 }
+    ∷ record { query = figures tableLate 1 1; written = figured 40 3 14 18 }
+    ∷ record { query = floor tableLate (post 1 24 ∷ []) lateCalls 1; written = floored 4 true 36 32 }
     -- 13: D=65,535 passes; 0 and 65,536 are refused 1
-    ∷ record { asked = admission (tableDenominator 65535); written = found faultless }
-    ∷ record { asked = admission (tableDenominator 0); written = found (fault (refusal 1)) }
-    ∷ record { asked = admission (tableDenominator 65536); written = found (fault (refusal 1)) }
+    ∷ record { query = admission (tableDenominator 65535); written = found faultless }
+    ∷ record { query = admission (tableDenominator 0); written = found (fault (refusal 1)) }
+    ∷ record { query = admission (tableDenominator 65536); written = found (fault (refusal 1)) }
     -- 13: empty bytes are refused 8
-    ∷ record { asked = reading []; written = read-as (refused (refusal 8)) allZero }
+    ∷ record { query = reading []; written = read-as (refused (refusal 8)) allZero }
     ∷ []

@@ -28,10 +28,10 @@ bytesOneMore = suc oldPlaces ∷ suc oldPlaces ∷ joined (λ place. place) (rep
 unfoldable pub wideTableRows : List Row
 wideTableRows =
     -- it was refused 2 and is accepted, as numbers and as bytes
-    record { asked = admissionUnder oldPlaces tableOneMore; written = found (fault (refusal 2)) }
-    ∷ record { asked = admission tableOneMore; written = found faultless }
-    ∷ record { asked = readingUnder oldPlaces bytesOneMore; written = read-as (refused (refusal 2)) (noTable oldPlaces) }
-    ∷ record { asked = reading bytesOneMore; written = read-as accepted tableOneMore }
+    record { query = admissionUnder oldPlaces tableOneMore; written = found (fault (refusal 2)) }
+    ∷ record { query = admission tableOneMore; written = found faultless }
+    ∷ record { query = readingUnder oldPlaces bytesOneMore; written = read-as (refused (refusal 2)) (noTable oldPlaces) }
+    ∷ record { query = reading bytesOneMore; written = read-as accepted tableOneMore }
     ∷ []
 
 -- ---- old states
@@ -86,26 +86,26 @@ basinLast = standing 189 (16 ∷ 18 ∷ 18 ∷ 16 ∷ 232 ∷ []) (11 ∷ 1 ∷ 
 unfoldable pub carryRows : List Row
 carryRows =
     -- T after the first two slots of case 3, where place 1 is blocked and has saved more than its burst
-    record { asked = carrying (oldT 4 2 2 2 1 6 3); written = started-as accepted (stateOf tableT 2 (account 2 1 ∷ account 6 3 ∷ [])) }
+    record { query = carrying (oldT 4 2 2 2 1 6 3); written = started-as accepted (stateOf tableT 2 (account 2 1 ∷ account 6 3 ∷ [])) }
     -- at the last slot number, and with the largest backlog
     ∷ record {
-      asked = carrying (oldT 4 2 4611686018427387904 8 65535 4 0);
+      query = carrying (oldT 4 2 4611686018427387904 8 65535 4 0);
       written = started-as accepted (stateOf tableT 4611686018427387904 (account 8 65535 ∷ account 4 0 ∷ []));
     }
     -- a need that its figure does not meet: 23 is not 7
     ∷ record {
-      asked = carrying (oldWith (stood 1 4 1 6 4 0));
+      query = carrying (oldWith (stood 1 4 1 6 4 0));
       written = started-as accepted (stateOf (table 4 2 (row 1 8 1 4 ∷ row 1 4 1 6 ∷ [])) 0 (account 8 0 ∷ account 4 0 ∷ []));
     }
     -- every place of the old limit taken
     ∷ record {
-      asked = carrying (oldFull oldPlaces);
+      query = carrying (oldFull oldPlaces);
       written = started-as accepted
           (stateOf (table oldPlaces oldPlaces (replicate oldPlaces (row 1 oldPlaces 1 10000))) 9 (replicate oldPlaces (account oldPlaces 1)));
     }
     -- the basin in the middle of its run
     ∷ record {
-      asked = carrying basinBefore;
+      query = carrying basinBefore;
       written = started-as accepted (stateOf tableBasin 7 (account 8 47 ∷ account 14 19 ∷ account 14 29 ∷ account 48 38 ∷ account 216 90 ∷ []));
     }
     ∷ []
@@ -115,17 +115,17 @@ unfoldable pub sideRows : List Row
 sideRows =
     -- the other slots of case 3
     record {
-      asked = besideOld (oldT 4 2 2 2 1 6 3) 7;
+      query = besideOld (oldT 4 2 2 2 1 6 3) 7;
       written = ran-both (1 ∷ 0 ∷ 1 ∷ 255 ∷ 255 ∷ 1 ∷ 255 ∷ []) (standing 9 (5 ∷ 1 ∷ []) (0 ∷ 0 ∷ []))
           (1 ∷ 0 ∷ 1 ∷ 255 ∷ 255 ∷ 1 ∷ 255 ∷ []) (standing 9 (5 ∷ 1 ∷ []) (0 ∷ 0 ∷ []));
     }
     -- 182 slots of the basin, whose line is full: two more for the handset, and then ten again and again
-    ∷ record { asked = besideOld basinBefore 182; written = ran-both basinLog basinLast basinLog basinLast }
+    ∷ record { query = besideOld basinBefore 182; written = ran-both basinLog basinLast basinLog basinLast }
     ∷ []
 
 -- an old state that breaks a rule: 23, and the state handed back is all 0
 abbrev pub unsound : OldState → Row
-unsound o = record { asked = carrying o; written = started-as (refused (refusal 23)) allZeroState }
+unsound o = record { query = carrying o; written = started-as (refused (refusal 23)) allZeroState }
 
 unfoldable pub oldUnsoundRows : List Row
 oldUnsoundRows =

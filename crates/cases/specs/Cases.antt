@@ -16,4 +16,4 @@ abbrev pub rows : List Row
 rows = benchRows ++ limitRows ++ wideRows ++ orderRows ++ stateRows ++ ruleRows ++ replayRows ++ numberRows ++ takeRows ++ lendRows ++ readRows ++ writeRows ++ refusedWriteRows ++ changedWriteRows ++ orderedWriteRows ++ checkRows ++ runRows ++ leadRows ++ figureRows ++ listingRows ++ finishRows ++ searchRows ++ searchBytesRows ++ chainRows ++ circleRows ++ absentRows ++ displayRows ++ wideTableRows ++ carryRows ++ sideRows ++ oldUnsoundRows ++ needRows ++ needOrderRows ++ needBytesRows ++ needServedRows
 
 abbrev pub All-pass : Type 0
-All-pass = map (λ r. reply (r .asked)) rows ≡ map (λ r. r .written) rows
+All-pass = map (λ r. reply (r .query)) rows ≡ map (λ r. r .written) rows

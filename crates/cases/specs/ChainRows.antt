@@ -9,14 +9,14 @@ use Rattle.terms.specs.Table.{Table}
 use Rattle.terms.specs.State.{State}
 use Rattle.terms.specs.Limits.{maxPlaces}
 use Rattle.terms.specs.Refusals.{refusal, refusalAt}
-use Rattle.terms.specs.Asked as asked
+use Rattle.terms.specs.Queries as queries
 use Rattle.terms.specs.Answers.{accepted, granted, refused}
 use Rattle.terms.specs.Chain.{nobody}
 use Rattle.terms.specs.Chain as chains
 use Rattle.rule.specs.Calls.{Call, post, slot}
 use Rattle.guarantees.specs.Counts.{slotsIn, Accepted, answersFrom}
 use Rattle.guarantees.specs.Chains.{PostInTurn, GrantedInTurn}
-use Rattle.cases.specs.Rows.{row, account, table, stateOf, Row, calling, askingFigures, chaining, after, standing, told, told-figures, told-chain}
+use Rattle.cases.specs.Rows.{row, account, table, stateOf, Row, calling, queryingFigures, chaining, after, standing, told, told-figures, told-chain}
 use Rattle.cases.specs.BenchRows.{tableTShort}
 use Rattle.cases.specs.EdgeRows.{tableLargest}
 use Rattle.cases.specs.RequestRows.{tableBasin}
@@ -35,70 +35,70 @@ allInOne = nobody ∷ placesFrom (λ p. p) 0 (maxPlaces - 1)
 unfoldable pub chainRows : List Row
 chainRows =
     -- a chain of one is the finish figure itself, with a name for each place or none given
-    record { asked = chaining basin 3 (replicate maxPlaces nobody); written = told-chain (chains.figured 12) }
-    ∷ record { asked = askingFigures basin 3 1; written = told-figures (asked.figured 7 12) }
-    ∷ record { asked = chaining basin 0 []; written = told-chain (chains.figured 5) }
+    record { query = chaining basin 3 (replicate maxPlaces nobody); written = told-chain (chains.figured 12) }
+    ∷ record { query = queryingFigures basin 3 1; written = told-figures (queries.figured 7 12) }
+    ∷ record { query = chaining basin 0 []; written = told-chain (chains.figured 5) }
     -- the handset follows the second probe, and the log the handset: 15 + 12 + 20. A figure is that of the chain up to its place
-    ∷ record { asked = chaining basin 4 (nobody ∷ nobody ∷ nobody ∷ 2 ∷ 3 ∷ []); written = told-chain (chains.figured 47) }
-    ∷ record { asked = chaining basin 3 (nobody ∷ nobody ∷ nobody ∷ 2 ∷ 3 ∷ []); written = told-chain (chains.figured 27) }
-    ∷ record { asked = chaining basin 2 (nobody ∷ nobody ∷ nobody ∷ 2 ∷ 3 ∷ []); written = told-chain (chains.figured 15) }
+    ∷ record { query = chaining basin 4 (nobody ∷ nobody ∷ nobody ∷ 2 ∷ 3 ∷ []); written = told-chain (chains.figured 47) }
+    ∷ record { query = chaining basin 3 (nobody ∷ nobody ∷ nobody ∷ 2 ∷ 3 ∷ []); written = told-chain (chains.figured 27) }
+    ∷ record { query = chaining basin 2 (nobody ∷ nobody ∷ nobody ∷ 2 ∷ 3 ∷ []); written = told-chain (chains.figured 15) }
     -- a place may follow one below it: the first probe follows the handset
-    ∷ record { asked = chaining basin 1 (nobody ∷ 3 ∷ []); written = told-chain (chains.figured 25) }
+    ∷ record { query = chaining basin 1 (nobody ∷ 3 ∷ []); written = told-chain (chains.figured 25) }
     -- each figure is rounded up by itself: 12 1/2 and 14 2/7 come to 13 + 15
-    ∷ record { asked = chaining basin 2 (nobody ∷ nobody ∷ 1 ∷ []); written = told-chain (chains.figured 28) }
+    ∷ record { query = chaining basin 2 (nobody ∷ nobody ∷ 1 ∷ []); written = told-chain (chains.figured 28) }
     -- two places follow the first probe: 13 + 15, and 13 + 12
-    ∷ record { asked = chaining basin 2 (nobody ∷ nobody ∷ 1 ∷ 1 ∷ []); written = told-chain (chains.figured 28) }
-    ∷ record { asked = chaining basin 3 (nobody ∷ nobody ∷ 1 ∷ 1 ∷ []); written = told-chain (chains.figured 25) }
+    ∷ record { query = chaining basin 2 (nobody ∷ nobody ∷ 1 ∷ 1 ∷ []); written = told-chain (chains.figured 28) }
+    ∷ record { query = chaining basin 3 (nobody ∷ nobody ∷ 1 ∷ 1 ∷ []); written = told-chain (chains.figured 25) }
     -- all five: 5 + 13 + 15 + 12 + 20
-    ∷ record { asked = chaining basin 4 allInOne; written = told-chain (chains.figured 65) }
+    ∷ record { query = chaining basin 4 allInOne; written = told-chain (chains.figured 65) }
     -- as many places as there can be, with the largest bursts
-    ∷ record { asked = chaining (after tableLargest 0 []) (maxPlaces - 1) allInOne; written = told-chain (chains.figured 4019976374) }
+    ∷ record { query = chaining (after tableLargest 0 []) (maxPlaces - 1) allInOne; written = told-chain (chains.figured 4019976374) }
     -- the figure is the table's: backlogs and credits make no difference, nor does a need that 7 would refuse. In T it is 4 + 7
-    ∷ record { asked = chaining (after tableBasin 0 (post 0 9 ∷ post 4 2 ∷ slot ∷ slot ∷ slot ∷ [])) 4 allInOne; written = told-chain (chains.figured 65) }
-    ∷ record { asked = chaining (stateOf tableTShort 0 []) 1 (nobody ∷ 0 ∷ []); written = told-chain (chains.figured 11) }
+    ∷ record { query = chaining (after tableBasin 0 (post 0 9 ∷ post 4 2 ∷ slot ∷ slot ∷ slot ∷ [])) 4 allInOne; written = told-chain (chains.figured 65) }
+    ∷ record { query = chaining (stateOf tableTShort 0 []) 1 (nobody ∷ 0 ∷ []); written = told-chain (chains.figured 11) }
     ∷ []
 
 unfoldable pub circleRows : List Row
 circleRows =
     -- a place that follows itself, asked for or not
-    record { asked = chaining basin 2 (nobody ∷ nobody ∷ 2 ∷ []); written = told-chain (chains.refused (refusalAt 16 2)) }
-    ∷ record { asked = chaining basin 0 (nobody ∷ nobody ∷ nobody ∷ nobody ∷ 4 ∷ []); written = told-chain (chains.refused (refusalAt 16 4)) }
+    record { query = chaining basin 2 (nobody ∷ nobody ∷ 2 ∷ []); written = told-chain (chains.refused (refusalAt 16 2)) }
+    ∷ record { query = chaining basin 0 (nobody ∷ nobody ∷ nobody ∷ nobody ∷ 4 ∷ []); written = told-chain (chains.refused (refusalAt 16 4)) }
     -- names that are all 0 are place 0 following itself
-    ∷ record { asked = chaining basin 4 (replicate maxPlaces 0); written = told-chain (chains.refused (refusalAt 16 0)) }
+    ∷ record { query = chaining basin 4 (replicate maxPlaces 0); written = told-chain (chains.refused (refusalAt 16 0)) }
     -- two that follow each other, and three in a ring: the lowest of them, whichever is asked for
-    ∷ record { asked = chaining basin 3 (nobody ∷ 3 ∷ nobody ∷ 1 ∷ []); written = told-chain (chains.refused (refusalAt 16 1)) }
-    ∷ record { asked = chaining basin 1 (nobody ∷ 3 ∷ nobody ∷ 1 ∷ []); written = told-chain (chains.refused (refusalAt 16 1)) }
-    ∷ record { asked = chaining basin 4 (nobody ∷ nobody ∷ 4 ∷ 2 ∷ 3 ∷ []); written = told-chain (chains.refused (refusalAt 16 2)) }
+    ∷ record { query = chaining basin 3 (nobody ∷ 3 ∷ nobody ∷ 1 ∷ []); written = told-chain (chains.refused (refusalAt 16 1)) }
+    ∷ record { query = chaining basin 1 (nobody ∷ 3 ∷ nobody ∷ 1 ∷ []); written = told-chain (chains.refused (refusalAt 16 1)) }
+    ∷ record { query = chaining basin 4 (nobody ∷ nobody ∷ 4 ∷ 2 ∷ 3 ∷ []); written = told-chain (chains.refused (refusalAt 16 2)) }
     -- two circles: the lowest place of both
-    ∷ record { asked = chaining basin 0 (nobody ∷ 4 ∷ 3 ∷ 2 ∷ 1 ∷ []); written = told-chain (chains.refused (refusalAt 16 1)) }
+    ∷ record { query = chaining basin 0 (nobody ∷ 4 ∷ 3 ∷ 2 ∷ 1 ∷ []); written = told-chain (chains.refused (refusalAt 16 1)) }
     -- a circle beside the asked chain, which ends well
-    ∷ record { asked = chaining basin 1 (nobody ∷ 0 ∷ 3 ∷ 2 ∷ []); written = told-chain (chains.refused (refusalAt 16 2)) }
+    ∷ record { query = chaining basin 1 (nobody ∷ 0 ∷ 3 ∷ 2 ∷ []); written = told-chain (chains.refused (refusalAt 16 2)) }
     -- places 0 and 1 lead into the circle of 2 and 3, and are not on it; so does place 4
-    ∷ record { asked = chaining basin 0 (1 ∷ 2 ∷ 3 ∷ 2 ∷ []); written = told-chain (chains.refused (refusalAt 16 2)) }
-    ∷ record { asked = chaining basin 4 (nobody ∷ nobody ∷ 3 ∷ 2 ∷ 3 ∷ []); written = told-chain (chains.refused (refusalAt 16 2)) }
+    ∷ record { query = chaining basin 0 (1 ∷ 2 ∷ 3 ∷ 2 ∷ []); written = told-chain (chains.refused (refusalAt 16 2)) }
+    ∷ record { query = chaining basin 4 (nobody ∷ nobody ∷ 3 ∷ 2 ∷ 3 ∷ []); written = told-chain (chains.refused (refusalAt 16 2)) }
     -- all five in one ring, and the same without the last step
-    ∷ record { asked = chaining basin 4 (4 ∷ 0 ∷ 1 ∷ 2 ∷ 3 ∷ []); written = told-chain (chains.refused (refusalAt 16 0)) }
-    ∷ record { asked = chaining basin 0 (4 ∷ nobody ∷ 1 ∷ 2 ∷ 3 ∷ []); written = told-chain (chains.figured 65) }
+    ∷ record { query = chaining basin 4 (4 ∷ 0 ∷ 1 ∷ 2 ∷ 3 ∷ []); written = told-chain (chains.refused (refusalAt 16 0)) }
+    ∷ record { query = chaining basin 0 (4 ∷ nobody ∷ 1 ∷ 2 ∷ 3 ∷ []); written = told-chain (chains.figured 65) }
     ∷ []
 
 unfoldable pub absentRows : List Row
 absentRows =
     -- place 5 is not there: asked for, followed on the asked chain, followed off it; so is place 254, and 255 is nobody
-    record { asked = chaining basin 5 []; written = told-chain (chains.refused (refusal 11)) }
-    ∷ record { asked = chaining basin 1 (nobody ∷ 5 ∷ []); written = told-chain (chains.refused (refusal 11)) }
-    ∷ record { asked = chaining basin 0 (nobody ∷ nobody ∷ nobody ∷ nobody ∷ 5 ∷ []); written = told-chain (chains.refused (refusal 11)) }
-    ∷ record { asked = chaining basin 0 (nobody ∷ 254 ∷ []); written = told-chain (chains.refused (refusal 11)) }
-    ∷ record { asked = chaining basin 0 (nobody ∷ 4 ∷ []); written = told-chain (chains.figured 5) }
+    record { query = chaining basin 5 []; written = told-chain (chains.refused (refusal 11)) }
+    ∷ record { query = chaining basin 1 (nobody ∷ 5 ∷ []); written = told-chain (chains.refused (refusal 11)) }
+    ∷ record { query = chaining basin 0 (nobody ∷ nobody ∷ nobody ∷ nobody ∷ 5 ∷ []); written = told-chain (chains.refused (refusal 11)) }
+    ∷ record { query = chaining basin 0 (nobody ∷ 254 ∷ []); written = told-chain (chains.refused (refusal 11)) }
+    ∷ record { query = chaining basin 0 (nobody ∷ 4 ∷ []); written = told-chain (chains.figured 5) }
     -- the sixth name and those behind it are not read: one that is not there, one that follows itself, and eleven that follow place 0
-    ∷ record { asked = chaining basin 4 (replicate 5 nobody ++ 200 ∷ []); written = told-chain (chains.figured 20) }
-    ∷ record { asked = chaining basin 4 (replicate 5 nobody ++ 5 ∷ []); written = told-chain (chains.figured 20) }
-    ∷ record { asked = chaining basin 4 (replicate 4 nobody ++ 0 ∷ replicate 11 0); written = told-chain (chains.figured 25) }
+    ∷ record { query = chaining basin 4 (replicate 5 nobody ++ 200 ∷ []); written = told-chain (chains.figured 20) }
+    ∷ record { query = chaining basin 4 (replicate 5 nobody ++ 5 ∷ []); written = told-chain (chains.figured 20) }
+    ∷ record { query = chaining basin 4 (replicate 4 nobody ++ 0 ∷ replicate 11 0); written = told-chain (chains.figured 25) }
     -- 23 is ahead of 11, and 11 of 16, by the place asked for or by a name at the last place
-    ∷ record { asked = chaining basinUnsound 5 (0 ∷ 5 ∷ []); written = told-chain (chains.refused (refusal 23)) }
-    ∷ record { asked = chaining basinUnsound 0 (0 ∷ []); written = told-chain (chains.refused (refusal 23)) }
-    ∷ record { asked = chaining basin 5 (0 ∷ []); written = told-chain (chains.refused (refusal 11)) }
-    ∷ record { asked = chaining basin 0 (0 ∷ nobody ∷ nobody ∷ nobody ∷ 9 ∷ []); written = told-chain (chains.refused (refusal 11)) }
-    ∷ record { asked = chaining basin 0 (0 ∷ []); written = told-chain (chains.refused (refusalAt 16 0)) }
+    ∷ record { query = chaining basinUnsound 5 (0 ∷ 5 ∷ []); written = told-chain (chains.refused (refusal 23)) }
+    ∷ record { query = chaining basinUnsound 0 (0 ∷ []); written = told-chain (chains.refused (refusal 23)) }
+    ∷ record { query = chaining basin 5 (0 ∷ []); written = told-chain (chains.refused (refusal 11)) }
+    ∷ record { query = chaining basin 0 (0 ∷ nobody ∷ nobody ∷ nobody ∷ 9 ∷ []); written = told-chain (chains.refused (refusal 11)) }
+    ∷ record { query = chaining basin 0 (0 ∷ []); written = told-chain (chains.refused (refusalAt 16 0)) }
     ∷ []
 
 -- ---- a run: the display follows the probe, and the handset the display
@@ -123,14 +123,14 @@ unfoldable pub displayRows : List Row
 displayRows =
     -- up to the handset's grant, with two slots after its post; the handset's figure is 6 + 12 + 16
     record {
-      asked = calling tableDisplay 0 (displayCalls 2);
+      query = calling tableDisplay 0 (displayCalls 2);
       written = told accepted
           (accepted ∷ accepted ∷ granted 0 0 ∷ granted 1 1
           ∷ refused (refusal 11) ∷ accepted ∷ accepted ∷ granted 2 2
           ∷ refused (refusal 11) ∷ accepted ∷ accepted ∷ granted 3 0 ∷ granted 4 3 ∷ [])
           (standing 5 (2 ∷ 8 ∷ 3 ∷ 2 ∷ []) (22 ∷ 0 ∷ 0 ∷ 0 ∷ []));
     }
-    ∷ record { asked = chaining (after tableDisplay 0 []) 3 displayNames; written = told-chain (chains.figured 34) }
+    ∷ record { query = chaining (after tableDisplay 0 []) 3 displayNames; written = told-chain (chains.figured 34) }
     ∷ []
 
 -- What the promise of a chain asks of its calls is met by these with 34 slots, and so is what it concludes.

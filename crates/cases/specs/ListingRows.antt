@@ -10,7 +10,7 @@ headerText = 115 ∷ 108 ∷ 111 ∷ 116 ∷ 32 ∷ 112 ∷ 108 ∷ 97 ∷ 99 �
 
 -- an input of these bytes is listed as the header and this text
 abbrev listed : (input text : List ℕ) → Row
-listed input text = record { asked = listingOf input; written = bytes (headerText ++ text) }
+listed input text = record { query = listingOf input; written = bytes (headerText ++ text) }
 
 unfoldable pub listingRows : List Row
 listingRows =

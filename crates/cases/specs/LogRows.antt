@@ -7,11 +7,11 @@ use Rattle.terms.specs.State.{State}
 use Rattle.terms.specs.Limits.{maxPlaces}
 use Rattle.terms.specs.Refusals.{faultless, fault, refusal, refusalAt}
 use Rattle.terms.specs.Answers.{accepted, refused}
-use Rattle.terms.specs.Asked as asked
+use Rattle.terms.specs.Queries as queries
 use Rattle.lead_parts.specs.Lead.{lead}
 use Rattle.lead_parts.specs.Lead as leads
 use Rattle.rule.specs.Calls.{post}
-use Rattle.cases.specs.Rows.{row, account, table, stateOf, Row, placeChecks, inputChecks, running, runChecks, leading, leadChecks, askingFigures, after, standing, found, ran, led, told-figures}
+use Rattle.cases.specs.Rows.{row, account, table, stateOf, Row, placeChecks, inputChecks, running, runChecks, leading, leadChecks, queryingFigures, after, standing, found, ran, led, told-figures}
 use Rattle.cases.specs.BenchRows.{tableT, tableTShort, threeEach, logNine}
 
 -- T with this first slot number and nothing posted
@@ -38,101 +38,101 @@ startLast = after (table 100 maxPlaces (replicate maxPlaces (row 1 100 1 10000))
 unfoldable pub checkRows : List Row
 checkRows =
     -- 11: T has places 0 and 1; neither 2 nor the largest number of 64 bits is one of them
-    record { asked = placeChecks (startT 0) 0; written = found faultless }
-    ∷ record { asked = placeChecks (startT 0) 1; written = found faultless }
-    ∷ record { asked = placeChecks (startT 0) 2; written = found (fault (refusal 11)) }
-    ∷ record { asked = placeChecks (startT 0) 18446744073709551615; written = found (fault (refusal 11)) }
+    record { query = placeChecks (startT 0) 0; written = found faultless }
+    ∷ record { query = placeChecks (startT 0) 1; written = found faultless }
+    ∷ record { query = placeChecks (startT 0) 2; written = found (fault (refusal 11)) }
+    ∷ record { query = placeChecks (startT 0) 18446744073709551615; written = found (fault (refusal 11)) }
     -- 13: no byte and 65,536 bytes pass; one more and the largest number of 64 bits do not
-    ∷ record { asked = inputChecks 0; written = found faultless }
-    ∷ record { asked = inputChecks 65536; written = found faultless }
-    ∷ record { asked = inputChecks 65537; written = found (fault (refusal 13)) }
-    ∷ record { asked = inputChecks 18446744073709551615; written = found (fault (refusal 13)) }
+    ∷ record { query = inputChecks 0; written = found faultless }
+    ∷ record { query = inputChecks 65536; written = found faultless }
+    ∷ record { query = inputChecks 65537; written = found (fault (refusal 13)) }
+    ∷ record { query = inputChecks 18446744073709551615; written = found (fault (refusal 13)) }
     ∷ []
 
 unfoldable pub runRows : List Row
 runRows =
     -- no byte means no slot, also where the slot number stands at its limit; one byte is then refused 22, and is left as it was
-    record { asked = running (startT 4611686018427387904) []; written = ran accepted [] (standing 4611686018427387904 (8 ∷ 4 ∷ []) (0 ∷ 0 ∷ [])) }
+    record { query = running (startT 4611686018427387904) []; written = ran accepted [] (standing 4611686018427387904 (8 ∷ 4 ∷ []) (0 ∷ 0 ∷ [])) }
     ∷ record {
-      asked = running (startT 4611686018427387904) (90 ∷ []);
+      query = running (startT 4611686018427387904) (90 ∷ []);
       written = ran (refused (refusal 22)) (90 ∷ []) (standing 4611686018427387904 (8 ∷ 4 ∷ []) (0 ∷ 0 ∷ []));
     }
     -- two slots below the limit: two bytes are slots, and three are refused 22 as a whole
     ∷ record {
-      asked = running (startT 4611686018427387902) (90 ∷ 91 ∷ []);
+      query = running (startT 4611686018427387902) (90 ∷ 91 ∷ []);
       written = ran accepted (255 ∷ 255 ∷ []) (standing 4611686018427387904 (8 ∷ 4 ∷ []) (0 ∷ 0 ∷ []));
     }
     ∷ record {
-      asked = running (startT 4611686018427387902) (90 ∷ 91 ∷ 92 ∷ []);
+      query = running (startT 4611686018427387902) (90 ∷ 91 ∷ 92 ∷ []);
       written = ran (refused (refusal 22)) (90 ∷ 91 ∷ 92 ∷ []) (standing 4611686018427387902 (8 ∷ 4 ∷ []) (0 ∷ 0 ∷ []));
     }
     -- one slot; then three more of case 3, from the state that the first handed back
-    ∷ record { asked = running (after tableT 0 threeEach) (90 ∷ []); written = ran accepted (0 ∷ []) (standing 1 (5 ∷ 5 ∷ []) (2 ∷ 3 ∷ [])) }
+    ∷ record { query = running (after tableT 0 threeEach) (90 ∷ []); written = ran accepted (0 ∷ []) (standing 1 (5 ∷ 5 ∷ []) (2 ∷ 3 ∷ [])) }
     ∷ record {
-      asked = running (stateOf tableT 1 (account 5 2 ∷ account 5 3 ∷ [])) (90 ∷ 91 ∷ 92 ∷ []);
+      query = running (stateOf tableT 1 (account 5 2 ∷ account 5 3 ∷ [])) (90 ∷ 91 ∷ 92 ∷ []);
       written = ran accepted (0 ∷ 1 ∷ 0 ∷ []) (standing 4 (0 ∷ 4 ∷ []) (0 ∷ 2 ∷ []));
     }
     -- the last place of the largest table
     ∷ record {
-      asked = running startLast (90 ∷ 91 ∷ []);
+      query = running startLast (90 ∷ 91 ∷ []);
       written = ran accepted ((maxPlaces - 1) ∷ 255 ∷ []) (standing 2 (replicate (maxPlaces - 1) 100 ++ 2 ∷ []) (replicate maxPlaces 0));
     }
     -- a table that fails only 7 is served
     ∷ record {
-      asked = running (stateOf tableTShort 0 (account 8 0 ∷ account 4 1 ∷ [])) (90 ∷ []);
+      query = running (stateOf tableTShort 0 (account 8 0 ∷ account 4 1 ∷ [])) (90 ∷ []);
       written = ran accepted (1 ∷ []) (standing 1 (8 ∷ 1 ∷ []) (0 ∷ 0 ∷ []));
     }
     -- a state that breaks a rule is refused 23, also for no byte, and ahead of 13 and of 22; 13 is ahead of 22
-    ∷ record { asked = running (unsoundT 0) []; written = ran (refused (refusal 23)) [] (standing 0 (9 ∷ 3 ∷ []) (0 ∷ 0 ∷ [])) }
-    ∷ record { asked = running (unsoundT 0) (90 ∷ 91 ∷ []); written = ran (refused (refusal 23)) (90 ∷ 91 ∷ []) (standing 0 (9 ∷ 3 ∷ []) (0 ∷ 0 ∷ [])) }
-    ∷ record { asked = runChecks (unsoundT 4611686018427387904) 65537; written = found (fault (refusal 23)) }
-    ∷ record { asked = runChecks (startT 4611686018427387904) 65537; written = found (fault (refusal 13)) }
-    ∷ record { asked = runChecks (startT 0) 65537; written = found (fault (refusal 13)) }
-    ∷ record { asked = runChecks (startT 0) 65536; written = found faultless }
-    ∷ record { asked = runChecks (startT 4611686018427322368) 65536; written = found faultless }
-    ∷ record { asked = runChecks (startT 4611686018427322369) 65536; written = found (fault (refusal 22)) }
+    ∷ record { query = running (unsoundT 0) []; written = ran (refused (refusal 23)) [] (standing 0 (9 ∷ 3 ∷ []) (0 ∷ 0 ∷ [])) }
+    ∷ record { query = running (unsoundT 0) (90 ∷ 91 ∷ []); written = ran (refused (refusal 23)) (90 ∷ 91 ∷ []) (standing 0 (9 ∷ 3 ∷ []) (0 ∷ 0 ∷ [])) }
+    ∷ record { query = runChecks (unsoundT 4611686018427387904) 65537; written = found (fault (refusal 23)) }
+    ∷ record { query = runChecks (startT 4611686018427387904) 65537; written = found (fault (refusal 13)) }
+    ∷ record { query = runChecks (startT 0) 65537; written = found (fault (refusal 13)) }
+    ∷ record { query = runChecks (startT 0) 65536; written = found faultless }
+    ∷ record { query = runChecks (startT 4611686018427322368) 65536; written = found faultless }
+    ∷ record { query = runChecks (startT 4611686018427322369) 65536; written = found (fault (refusal 22)) }
     ∷ []
 
 unfoldable pub leadRows : List Row
 leadRows =
     -- over no byte the lead is 0; idle bytes and bytes that name no place count for nobody
-    record { asked = leading (startT 0) 0 []; written = led (lead (pos 0)) }
-    ∷ record { asked = leading (startT 0) 1 (255 ∷ 255 ∷ 255 ∷ []); written = led (lead (negsuc 2)) }
-    ∷ record { asked = leading (startT 0) 0 (7 ∷ 1 ∷ 0 ∷ []); written = led (lead (pos 1)) }
+    record { query = leading (startT 0) 0 []; written = led (lead (pos 0)) }
+    ∷ record { query = leading (startT 0) 1 (255 ∷ 255 ∷ 255 ∷ []); written = led (lead (negsuc 2)) }
+    ∷ record { query = leading (startT 0) 0 (7 ∷ 1 ∷ 0 ∷ []); written = led (lead (pos 1)) }
     -- the rate of the place that is asked for: 10 − 2 × 3 and 10 − 4 × 3
-    ∷ record { asked = leading startThree 1 (1 ∷ 255 ∷ 2 ∷ []); written = led (lead (pos 4)) }
-    ∷ record { asked = leading startThree 2 (1 ∷ 255 ∷ 2 ∷ []); written = led (lead (negsuc 1)) }
+    ∷ record { query = leading startThree 1 (1 ∷ 255 ∷ 2 ∷ []); written = led (lead (pos 4)) }
+    ∷ record { query = leading startThree 2 (1 ∷ 255 ∷ 2 ∷ []); written = led (lead (negsuc 1)) }
     -- the largest D and n: two grants in two slots, and none in one
-    ∷ record { asked = leading startFull 0 (0 ∷ 0 ∷ []); written = led (lead (pos 0)) }
-    ∷ record { asked = leading startFull 0 (255 ∷ []); written = led (lead (negsuc 65534)) }
+    ∷ record { query = leading startFull 0 (0 ∷ 0 ∷ []); written = led (lead (pos 0)) }
+    ∷ record { query = leading startFull 0 (255 ∷ []); written = led (lead (negsuc 65534)) }
     -- a table that fails only 7 is served, and so is a slot number at its limit
-    ∷ record { asked = leading (stateOf tableTShort 4611686018427387904 []) 1 logNine; written = led (lead (pos 3)) }
+    ∷ record { query = leading (stateOf tableTShort 4611686018427387904 []) 1 logNine; written = led (lead (pos 3)) }
     -- 11: a place that is not below N, be it the byte of an idle slot; 23 is ahead of 11, and 11 of 13
-    ∷ record { asked = leading (startT 0) 255 (255 ∷ []); written = led (leads.refused (refusal 11)) }
-    ∷ record { asked = leading (startT 0) 2 logNine; written = led (leads.refused (refusal 11)) }
-    ∷ record { asked = leading (unsoundT 0) 2 logNine; written = led (leads.refused (refusal 23)) }
-    ∷ record { asked = leadChecks (unsoundT 0) 2 65537; written = found (fault (refusal 23)) }
-    ∷ record { asked = leadChecks (startT 0) 2 65537; written = found (fault (refusal 11)) }
-    ∷ record { asked = leadChecks (startT 0) 1 65537; written = found (fault (refusal 13)) }
-    ∷ record { asked = leadChecks (startT 0) 1 65536; written = found faultless }
+    ∷ record { query = leading (startT 0) 255 (255 ∷ []); written = led (leads.refused (refusal 11)) }
+    ∷ record { query = leading (startT 0) 2 logNine; written = led (leads.refused (refusal 11)) }
+    ∷ record { query = leading (unsoundT 0) 2 logNine; written = led (leads.refused (refusal 23)) }
+    ∷ record { query = leadChecks (unsoundT 0) 2 65537; written = found (fault (refusal 23)) }
+    ∷ record { query = leadChecks (startT 0) 2 65537; written = found (fault (refusal 11)) }
+    ∷ record { query = leadChecks (startT 0) 1 65537; written = found (fault (refusal 13)) }
+    ∷ record { query = leadChecks (startT 0) 1 65536; written = found faultless }
     ∷ []
 
 unfoldable pub figureRows : List Row
 figureRows =
     -- T: place 0 waits for nobody; place 1 for a burst of 8 at the 3 of 4 that are left
-    record { asked = askingFigures (startT 0) 0 1; written = told-figures (asked.figured 0 4) }
-    ∷ record { asked = askingFigures (startT 0) 1 1; written = told-figures (asked.figured 3 7) }
-    ∷ record { asked = askingFigures (startT 0) 1 255; written = told-figures (asked.figured 3 1023) }
+    record { query = queryingFigures (startT 0) 0 1; written = told-figures (queries.figured 0 4) }
+    ∷ record { query = queryingFigures (startT 0) 1 1; written = told-figures (queries.figured 3 7) }
+    ∷ record { query = queryingFigures (startT 0) 1 255; written = told-figures (queries.figured 3 1023) }
     -- two places above: B is 35 and R is 7; two transfers at a rate of 4 in 10 take 5 slots, and not twice 3
-    ∷ record { asked = askingFigures startThree 2 1; written = told-figures (asked.figured 5 8) }
-    ∷ record { asked = askingFigures startThree 2 2; written = told-figures (asked.figured 5 10) }
+    ∷ record { query = queryingFigures startThree 2 1; written = told-figures (queries.figured 5 8) }
+    ∷ record { query = queryingFigures startThree 2 2; written = told-figures (queries.figured 5 10) }
     -- a table that fails only 7 is served, and so is a slot number at its limit
-    ∷ record { asked = askingFigures (startT 4611686018427387904) 1 1; written = told-figures (asked.figured 3 7) }
-    ∷ record { asked = askingFigures (stateOf tableTShort 0 []) 1 1; written = told-figures (asked.figured 3 7) }
+    ∷ record { query = queryingFigures (startT 4611686018427387904) 1 1; written = told-figures (queries.figured 3 7) }
+    ∷ record { query = queryingFigures (stateOf tableTShort 0 []) 1 1; written = told-figures (queries.figured 3 7) }
     -- 5 with the place that was asked for; 11 is ahead of 5, and 23 of 11
-    ∷ record { asked = askingFigures (startT 0) 1 0; written = told-figures (asked.refused (refusalAt 5 1)) }
-    ∷ record { asked = askingFigures (startT 0) 1 256; written = told-figures (asked.refused (refusalAt 5 1)) }
-    ∷ record { asked = askingFigures (startT 0) 0 4294967295; written = told-figures (asked.refused (refusalAt 5 0)) }
-    ∷ record { asked = askingFigures (startT 0) 2 0; written = told-figures (asked.refused (refusal 11)) }
-    ∷ record { asked = askingFigures (unsoundT 0) 2 0; written = told-figures (asked.refused (refusal 23)) }
+    ∷ record { query = queryingFigures (startT 0) 1 0; written = told-figures (queries.refused (refusalAt 5 1)) }
+    ∷ record { query = queryingFigures (startT 0) 1 256; written = told-figures (queries.refused (refusalAt 5 1)) }
+    ∷ record { query = queryingFigures (startT 0) 0 4294967295; written = told-figures (queries.refused (refusalAt 5 0)) }
+    ∷ record { query = queryingFigures (startT 0) 2 0; written = told-figures (queries.refused (refusal 11)) }
+    ∷ record { query = queryingFigures (unsoundT 0) 2 0; written = told-figures (queries.refused (refusal 23)) }
     ∷ []

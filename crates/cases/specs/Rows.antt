@@ -18,11 +18,11 @@ use Rattle.terms.specs.Figures.{burstsAbove, rateLeft, wait, finish, admissionV
 use Rattle.terms.specs.Input.{inputVerdict}
 use Rattle.terms.specs.Start.{start}
 use Rattle.carrying.specs.Carry.{OldState, asState, carry}
-use Rattle.terms.specs.Asked.{FiguresAnswer}
-use Rattle.terms.specs.Asked as asked
+use Rattle.terms.specs.Queries.{FiguresAnswer}
+use Rattle.terms.specs.Queries as queries
 use Rattle.terms.specs.Chain.{ChainAnswer}
 use Rattle.terms.specs.Chain as chains
-use Rattle.lead_parts.specs.Lead.{LeadAnswer, leadVerdict, leadAsked}
+use Rattle.lead_parts.specs.Lead.{LeadAnswer, leadVerdict, leadQuery}
 use Rattle.table_bytes.specs.Reading.{Read, numberRead, readTable}
 use Rattle.table_bytes.specs.Writing.{WriteAnswer, writeTable}
 use Rattle.rule.specs.Calls.{Call, post, slot, called}
@@ -71,59 +71,59 @@ stateOf t at accounts = record { table = t; slot = record { 0 = at }; accounts =
 abbrev pub allZeroState : State
 allZeroState = record { table = allZero; slot = record { 0 = 0 }; accounts = replicate maxPlaces (account 0 0) }
 
-pub data Question : Type 0 where
+pub data Query : Type 0 where
   -- what a number is read as from the start of some bytes, and what bytes a number is written as
-  readingNumber : (bytes : List ℕ) → Question
-  writingNumber : ℕ → Question
+  readingNumber : (bytes : List ℕ) → Query
+  writingNumber : ℕ → Query
   -- a number's bytes into a lent buffer
-  puttingNumber : ℕ → (old : List ℕ) → Question
+  puttingNumber : ℕ → (old : List ℕ) → Query
   -- what stands at the start of some bytes, a number with how many of them it takes; and how many bytes a number takes, and its
   -- bytes into the first `room` bytes of a buffer, which alone are lent
-  takingNumber : (bytes : List ℕ) → Question
-  lendingNumber : ℕ → (room : ℕ) → (buffer : List ℕ) → Question
+  takingNumber : (bytes : List ℕ) → Query
+  lendingNumber : ℕ → (room : ℕ) → (buffer : List ℕ) → Query
   -- a table from its bytes, and under another limit, and a table's bytes into a lent buffer
-  reading : (bytes : List ℕ) → Question
-  readingUnder : (limit : ℕ) → (bytes : List ℕ) → Question
-  writing : Table → (old : List ℕ) → Question
+  reading : (bytes : List ℕ) → Query
+  readingUnder : (limit : ℕ) → (bytes : List ℕ) → Query
+  writing : Table → (old : List ℕ) → Query
   -- what admission finds, and what it finds under another limit
-  admission : Table → Question
-  admissionUnder : (limit : ℕ) → Table → Question
+  admission : Table → Query
+  admissionUnder : (limit : ℕ) → Table → Query
   -- an old state carried over; and so many slots of it under the old limit, and of what it is carried over to under the new one
-  carrying : OldState → Question
-  besideOld : OldState → (slots : ℕ) → Question
+  carrying : OldState → Query
+  besideOld : OldState → (slots : ℕ) → Query
   -- what a start answers, and the whole state that it hands back
-  starting : Table → (first : ℕ) → Question
+  starting : Table → (first : ℕ) → Query
   -- what a start answers, and the calls from it, and how the state stands then
-  calling : Table → (first : ℕ) → List Call → Question
+  calling : Table → (first : ℕ) → List Call → Query
   -- what one call on a state answers, and how the state stands then
-  asking : State → Call → Question
+  querying : State → Call → Query
   -- a lent list of calls as numbers, folded from a start into a lent list of answers
-  replaying : Table → (first : ℕ) → (calls old : List ℕ) → Question
+  replaying : Table → (first : ℕ) → (calls old : List ℕ) → Query
   -- what the checks of a place of a state find, and those of so many bytes of a log or of input
-  placeChecks : State → (place : ℕ) → Question
-  inputChecks : (bytes : ℕ) → Question
+  placeChecks : State → (place : ℕ) → Query
+  inputChecks : (bytes : ℕ) → Query
   -- as many slots on a state as a lent log has bytes; and what the checks of a run over so many bytes find
-  running : State → (log : List ℕ) → Question
-  runChecks : State → (count : ℕ) → Question
+  running : State → (log : List ℕ) → Query
+  runChecks : State → (count : ℕ) → Query
   -- the lead of a place over a log; and what its checks find
-  leading : State → (place : ℕ) → (log : List ℕ) → Question
-  leadChecks : State → (place count : ℕ) → Question
+  leading : State → (place : ℕ) → (log : List ℕ) → Query
+  leadChecks : State → (place count : ℕ) → Query
   -- the figures call
-  askingFigures : State → (place j : ℕ) → Question
+  queryingFigures : State → (place j : ℕ) → Query
   -- the chain figure of a place, with these names
-  chaining : State → (place : ℕ) → (names : List ℕ) → Question
+  chaining : State → (place : ℕ) → (names : List ℕ) → Query
   -- B, R, the wait and the finish figure of a place for j transfers
-  figures : Table → (place j : ℕ) → Question
+  figures : Table → (place j : ℕ) → Query
   -- its finish figure, and what it was before request 1; and what admission found with that
-  bothFinishes : Table → (place j : ℕ) → Question
-  formerAdmission : Table → Question
+  bothFinishes : Table → (place j : ℕ) → Query
+  formerAdmission : Table → Query
   -- a table put in order; and a table's bytes, the table put in order and written into a lent buffer
-  ordering : Table → Question
-  orderingBytes : (bytes old : List ℕ) → Question
+  ordering : Table → Query
+  orderingBytes : (bytes old : List ℕ) → Query
   -- the floor for a place over `inside`, entered after `before` from slot 0
-  floor : Table → (before inside : List Call) → (place : ℕ) → Question
+  floor : Table → (before inside : List Call) → (place : ℕ) → Query
   -- what slotlist prints for its input bytes
-  listingOf : (input : List ℕ) → Question
+  listingOf : (input : List ℕ) → Query
 
 -- how a state stands: its slot number, and the credits and backlogs of the first N places
 pub record Standing : Type 0 where
@@ -178,7 +178,7 @@ waitsThroughout p s (slot ∷ cs) = ltb 0 (backlog (accountAt p (s .accounts))) 
 abbrev pub floorSides : ℕ → Bool → ℕ → ℕ → ℕ → ℕ → ℕ → ℕ → Reply
 floorSides c waits d n R B L g = floored c waits (R * d * g) (n * (R * L - B))
 
-unfoldable pub reply : Question → Reply
+unfoldable pub reply : Query → Reply
 reply (readingNumber given) = number (numberRead given)
 reply (writingNumber x) = bytes (numberBytes x)
 reply (puttingNumber x old) = put-as (numberWritten x old)
@@ -200,7 +200,7 @@ reply (starting t first) = let begun = start maxPlaces t first in started-as (be
 reply (calling t first calls) =
     let begun = start maxPlaces t first in
     told (begun .answer) (answersFrom maxPlaces (begun .state) calls) (standsAt (t .count) (stateAfter maxPlaces t first calls))
-reply (asking s c) = answered (called maxPlaces s c .answer) (standsAt (s .table .count) (called maxPlaces s c .state))
+reply (querying s c) = answered (called maxPlaces s c .answer) (standsAt (s .table .count) (called maxPlaces s c .state))
 reply (replaying t first calls old) =
     let r = replay maxPlaces t first calls old in
     replayed (r .answer) (r .words) (standsAt (t .count) (r .state))
@@ -208,9 +208,9 @@ reply (placeChecks s p) = found (placeVerdict maxPlaces s p)
 reply (inputChecks count) = found (inputVerdict count)
 reply (running s log) = let r = run maxPlaces s log in ran (r .answer) (r .log) (standsAt (s .table .count) (r .state))
 reply (runChecks s count) = found (runVerdict maxPlaces s count)
-reply (leading s p log) = led (leadAsked maxPlaces s p log)
+reply (leading s p log) = led (leadQuery maxPlaces s p log)
 reply (leadChecks s p count) = found (leadVerdict maxPlaces s p count)
-reply (askingFigures s p j) = told-figures (asked.figures maxPlaces s p j)
+reply (queryingFigures s p j) = told-figures (queries.figures maxPlaces s p j)
 reply (chaining s p names) = told-chain (chains.chain maxPlaces s p names)
 reply (figures t p j) =
     let B = burstsAbove p (requestorsOf t) in
@@ -227,7 +227,7 @@ reply (floor t before inside p) =
     (rateLeft (t .denominator) p (requestorsOf t)) (burstsAbove p (requestorsOf t)) (slotsIn replies) (grantsTo p replies)
 reply (listingOf input) = bytes (listing maxPlaces input)
 
--- a question, and the reply that is written for it: in BenchRows what document 01 says, elsewhere what was worked out by hand
+-- a query, and the reply that is written for it: in BenchRows what document 01 says, elsewhere what was worked out by hand
 pub record Row : Type 0 where
-  pub asked : Question
+  pub query : Query
   pub written : Reply

@@ -17,11 +17,11 @@ use Rattle.terms.specs.Limits.{maxNeed}
 use Rattle.terms.specs.Refusals.{Verdict, faultless, fault, resolve, then}
 use Rattle.terms.specs.Answers.{Answer, accepted, refused}
 use Rattle.terms.specs.Figures.{wait, finish}
-use Rattle.terms.specs.Asked as asked
+use Rattle.terms.specs.Queries as queries
 use Rattle.terms.specs.Chain as chains
 use Rattle.terms.proofs.Checks.{then-open, row-open, row-passes, passed, passes, admitted, admission-left, fair}
 use Rattle.terms.proofs.Sound.{Sound, sound-open, sound-shut, places-length, start-admitted}
-use Rattle.lead_parts.specs.Lead.{leadVerdict, leadAsked}
+use Rattle.lead_parts.specs.Lead.{leadVerdict, leadQuery}
 use Rattle.rule.specs.declared.rule.Grant.{Grant}
 use Rattle.rule.specs.declared.rule.Grant.the-variants.{Nobody, Place}
 use Rattle.rule.specs.Rule.{eligible, firstEligible, served, passed as unserved, after}
@@ -192,7 +192,7 @@ module _ (p j : ℕ) where
       let (last, log) = same-slots k (advanced s (grantOf s)) in
       (rw (same-grant-of s, same-advanced s (grantOf s)) last, rw (same-grant-of s, same-advanced s (grantOf s)) (ap (λ l. grantByte (grantOf s) ∷ l) log))
 
-  -- ---- questions
+  -- ---- queries
 
   module _ (limit : ℕ) (s : State) (sound-s : sound limit s ≡ true) (sound-with-s : sound limit (with s) ≡ true) where
     same-sound : sound limit (with s) ≡ sound limit s
@@ -213,12 +213,12 @@ module _ (p j : ℕ) where
     unfolding run runVerdict
     same-run log = let (last, told) = same-slots (length log) s in rw (same-sound, last, told) (sym (ran-by log (runVerdict limit s (length log))))
 
-    same-lead : (q : ℕ) (log : List ℕ) → leadAsked limit (with s) q log ≡ leadAsked limit s q log
-    unfolding leadAsked leadVerdict
+    same-lead : (q : ℕ) (log : List ℕ) → leadQuery limit (with s) q log ≡ leadQuery limit s q log
+    unfolding leadQuery leadVerdict
     same-lead q log = rw (same-place q, at-set rate noRequestor q p (needing j (requestorAt p (s .table .requestors))) (s .table .requestors) refl)
 
-    same-figures : (q k : ℕ) → asked.figures limit (with s) q k ≡ asked.figures limit s q k
-    unfolding asked.figures asked.figuresVerdict
+    same-figures : (q k : ℕ) → queries.figures limit (with s) q k ≡ queries.figures limit s q k
+    unfolding queries.figures queries.figuresVerdict
     same-figures q k =
         rw (
           same-place q,

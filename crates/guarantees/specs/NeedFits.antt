@@ -12,9 +12,9 @@ use Rattle.terms.specs.State.{State, sound, Shaped}
 use Rattle.terms.specs.Limits.{maxNeed}
 use Rattle.terms.specs.Refusals.{faultless, then}
 use Rattle.terms.specs.Figures.{finishesVerdict, admissionVerdict}
-use Rattle.terms.specs.Asked as asked
+use Rattle.terms.specs.Queries as queries
 use Rattle.terms.specs.Chain as chains
-use Rattle.lead_parts.specs.Lead.{leadAsked}
+use Rattle.lead_parts.specs.Lead.{leadQuery}
 use Rattle.rule.specs.Calls.{Call, called}
 use Rattle.rule.specs.Log.{run}
 use Rattle.guarantees.specs.Counts.{Accepted, answersFrom}
@@ -57,8 +57,8 @@ pub record SameService (limit p j : ℕ) (s : State) : Type 0 where
   pub answers : (calls : List Call) → answersFrom limit (withNeed p j s) calls ≡ answersFrom limit s calls
   pub states : (calls : List Call) → end (called limit) (withNeed p j s) calls ≡ withNeed p j (end (called limit) s calls)
   pub run : (log : List ℕ) → run limit (withNeed p j s) log ≡ record { state = withNeed p j (run limit s log .state); answer = run limit s log .answer; log = run limit s log .log }
-  pub lead : (q : ℕ) (log : List ℕ) → leadAsked limit (withNeed p j s) q log ≡ leadAsked limit s q log
-  pub figures : (q k : ℕ) → asked.figures limit (withNeed p j s) q k ≡ asked.figures limit s q k
+  pub lead : (q : ℕ) (log : List ℕ) → leadQuery limit (withNeed p j s) q log ≡ leadQuery limit s q log
+  pub figures : (q k : ℕ) → queries.figures limit (withNeed p j s) q k ≡ queries.figures limit s q k
   pub chain : (q : ℕ) (names : List ℕ) → chains.chain limit (withNeed p j s) q names ≡ chains.chain limit s q names
 
 -- any j within the limits of check 5

@@ -1,5 +1,5 @@
 -- What a call on lent words comes to: changed, asked, or started in.
 pub mod Lengths
 pub mod Changed
-pub mod Asked
+pub mod Queries
 pub mod Started

@@ -18,7 +18,7 @@ use Rattle.terms.specs.Refusals.{refusal}
 use Rattle.terms.specs.Answers.{Answer, accepted, granted, idle, refused}
 use Rattle.terms.specs.Start.{start}
 use Rattle.carrying.specs.Carry.{carry}
-use Rattle.terms.specs.Asked as asked
+use Rattle.terms.specs.Queries as queries
 use Rattle.terms.specs.Chain as chains
 use Rattle.lead_parts.specs.Lead as leads
 use Rattle.table_bytes.specs.Reading.{readTable}
@@ -31,7 +31,7 @@ use Rattle.starts.specs.Starts.{begun}
 use Rattle.carrying.specs.OldWords.{oldRoomOf, oldStateOf}
 use Rattle.carrying.specs.Fits.{fitsInto}
 use Rattle.ordered_bytes.specs.OrderBytes.{orderBytes}
-use Rattle.asking.specs.Look as look
+use Rattle.queries.specs.Look as look
 use Rattle.outcomes.specs.Outcomes.{refusalCode, answerCode, wrongLength}
 
 -- the words of a state with room for so many places, 1 to `most`; 0 where no state has that room
@@ -117,14 +117,14 @@ pub record Figured : Type 0 where
   pub outcome : ℕ
 
 -- the reported wait, and the finish figure
-abbrev pub figuresOutput : (old : List ℕ) → asked.FiguresAnswer → Figured
-figuresOutput old (asked.figured wait finish) = record { answer = wait ∷ finish ∷ []; outcome = 0 }
-figuresOutput old (asked.refused r) = record { answer = old; outcome = refusalCode r }
+abbrev pub figuresOutput : (old : List ℕ) → queries.FiguresAnswer → Figured
+figuresOutput old (queries.figured wait finish) = record { answer = wait ∷ finish ∷ []; outcome = 0 }
+figuresOutput old (queries.refused r) = record { answer = old; outcome = refusalCode r }
 
 unfoldable pub figured : (most : ℕ) → (words : List ℕ) → (place j : ℕ) → (old : List ℕ) → Figured
 figured most words p j old =
     onState most words (eqb (length old) 2) (record { answer = old; outcome = wrongLength })
-    λ limit s. figuresOutput old (asked.figures limit s p j)
+    λ limit s. figuresOutput old (queries.figures limit s p j)
 
 -- the chain figure
 abbrev pub chainOutput : (old : List ℕ) → chains.ChainAnswer → Figured
@@ -145,7 +145,7 @@ lookOutput old (look.refused r) = record { answer = old; outcome = refusalCode r
 unfoldable pub accountExported : (most : ℕ) → (words : List ℕ) → (place : ℕ) → (old : List ℕ) → Figured
 accountExported most words p old =
     onState most words (eqb (length old) 2) (record { answer = old; outcome = wrongLength })
-    λ limit s. lookOutput old (look.accountAsked limit s p)
+    λ limit s. lookOutput old (look.accountQuery limit s p)
 
 -- the slot number and N
 abbrev pub stands : (old : List ℕ) → look.Looked look.Standing → Figured
@@ -168,7 +168,7 @@ leadOutput old (leads.refused r) = record { answer = old; outcome = refusalCode 
 unfoldable pub led : (most : ℕ) → (words : List ℕ) → (place : ℕ) → (log : List ℕ) → (old : List ℤ) → Led
 led most words p log old =
     onState most words (eqb (length old) 1) (record { answer = old; outcome = wrongLength })
-    λ limit s. leadOutput old (leads.leadAsked limit s p log)
+    λ limit s. leadOutput old (leads.leadQuery limit s p log)
 
 pub record Wrote : Type 0 where
   pub buffer : List ℕ

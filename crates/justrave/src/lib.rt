@@ -3,6 +3,6 @@
 
 mod lent;
 pub mod orders;
-pub mod questions;
 pub mod starting;
+pub mod state_queries;
 pub mod states;

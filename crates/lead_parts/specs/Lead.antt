@@ -29,8 +29,8 @@ unfoldable pub leadVerdict : ℕ → State → (place bytes : ℕ) → Verdict
 leadVerdict limit s p bytes = then (placeVerdict limit s p) (inputVerdict bytes)
 
 -- `limit` is how many places there is room for
-unfoldable pub leadAsked : ℕ → State → (place : ℕ) → List ℕ → LeadAnswer
-leadAsked limit s p log =
+unfoldable pub leadQuery : ℕ → State → (place : ℕ) → List ℕ → LeadAnswer
+leadQuery limit s p log =
     resolve (leadVerdict limit s p (length log))
     (lead (leadIn (s .table) p log))
     refused

@@ -19,7 +19,7 @@ use Rattle.terms.specs.Table.{Table, noRequestor, tableOf}
 use Rattle.terms.specs.Refusals.{Verdict, faultless, fault, refusal, gate, then, resolve}
 use Rattle.terms.specs.Answers.{Answer, accepted, granted, idle, refused, unless}
 use Rattle.terms.specs.Start.{fresh, opening, noState, startVerdict, start, turnedDown}
-use Rattle.terms.specs.Asked as asked
+use Rattle.terms.specs.Queries as queries
 use Rattle.terms.specs.Chain as chains
 use Rattle.lead_parts.specs.Lead as leads
 use Rattle.terms.specs.TableResult.{TableResult, accept, refuse}
@@ -40,7 +40,7 @@ use Rattle.layout.proofs.RoundTrip.{right, words-read-back, words-of, state-wri
 use Rattle.layout.proofs.Stores.{zero-state}
 use Rattle.layout.proofs.TableNumbers.{numbers-read-back}
 use Rattle.starts.specs.Starts.{begun}
-use Rattle.asking.specs.Look as look
+use Rattle.queries.specs.Look as look
 use Rattle.outcomes.specs.Outcomes.{refusalCode, answerCode, wrongLength}
 use Rattle.outcomes.specs.Places.{ofAnyCall, AmongRefusals}
 use Rattle.outcomes.proofs.Places.{table-any, state-any, chain-any, code-apart, start-names-below, table-start-names-below, calls-name-below, runs-name-below, leads-name-below, figures-name-below, chains-name-below, write-names-below, looks-name-below, standings-name-below}
@@ -266,12 +266,12 @@ module _ (room : ℕ) (s : State) where
       by faultless t = went refl
       by (fault r) t = turned r (t r refl) refl (refl, refl)
 
-  figures-ends : (p j : ℕ) (old : List ℕ) → let d = figuresOutput old (asked.figures room s p j) in Ends room (d .outcome) (d .answer ≡ old)
-  figures-ends p j old = by (asked.figures room s p j) (λ r e. state-any (figures-name-below room s p j r e))
+  figures-ends : (p j : ℕ) (old : List ℕ) → let d = figuresOutput old (queries.figures room s p j) in Ends room (d .outcome) (d .answer ≡ old)
+  figures-ends p j old = by (queries.figures room s p j) (λ r e. state-any (figures-name-below room s p j r e))
     where
-      by : (a : asked.FiguresAnswer) → ((r : Refusal) → a ≡ asked.refused r → AmongRefusals ofAnyCall room r) → Ends room (figuresOutput old a .outcome) (figuresOutput old a .answer ≡ old)
-      by (asked.figured wait finish) t = went refl
-      by (asked.refused r) t = turned r (t r refl) refl refl
+      by : (a : queries.FiguresAnswer) → ((r : Refusal) → a ≡ queries.refused r → AmongRefusals ofAnyCall room r) → Ends room (figuresOutput old a .outcome) (figuresOutput old a .answer ≡ old)
+      by (queries.figured wait finish) t = went refl
+      by (queries.refused r) t = turned r (t r refl) refl refl
 
   chain-ends : (p : ℕ) (names old : List ℕ) → let d = chainOutput old (chains.chain room s p names) in Ends room (d .outcome) (d .answer ≡ old)
   chain-ends p names old = by (chains.chain room s p names) (λ r e. chain-any (chains-name-below room s p names r e))
@@ -280,8 +280,8 @@ module _ (room : ℕ) (s : State) where
       by (chains.figured figure) t = went refl
       by (chains.refused r) t = turned r (t r refl) refl refl
 
-  account-ends : (p : ℕ) (old : List ℕ) → let d = lookOutput old (look.accountAsked room s p) in Ends room (d .outcome) (d .answer ≡ old)
-  account-ends p old = by (look.accountAsked room s p) (λ r e. state-any (looks-name-below room s p r e))
+  account-ends : (p : ℕ) (old : List ℕ) → let d = lookOutput old (look.accountQuery room s p) in Ends room (d .outcome) (d .answer ≡ old)
+  account-ends p old = by (look.accountQuery room s p) (λ r e. state-any (looks-name-below room s p r e))
     where
       by : (a : look.Looked Account) → ((r : Refusal) → a ≡ look.refused r → AmongRefusals ofAnyCall room r) → Ends room (lookOutput old a .outcome) (lookOutput old a .answer ≡ old)
       by (look.looked x) t = went refl
@@ -294,8 +294,8 @@ module _ (room : ℕ) (s : State) where
       by (look.looked x) t = went refl
       by (look.refused r) t = turned r (t r refl) refl refl
 
-  lead-ends : (p : ℕ) (log : List ℕ) (old : List ℤ) → let d = leadOutput old (leads.leadAsked room s p log) in Ends room (d .outcome) (d .answer ≡ old)
-  lead-ends p log old = by (leads.leadAsked room s p log) (λ r e. state-any (leads-name-below room s p log r e))
+  lead-ends : (p : ℕ) (log : List ℕ) (old : List ℤ) → let d = leadOutput old (leads.leadQuery room s p log) in Ends room (d .outcome) (d .answer ≡ old)
+  lead-ends p log old = by (leads.leadQuery room s p log) (λ r e. state-any (leads-name-below room s p log r e))
     where
       by : (a : leads.LeadAnswer) → ((r : Refusal) → a ≡ leads.refused r → AmongRefusals ofAnyCall room r) → Ends room (leadOutput old a .outcome) (leadOutput old a .answer ≡ old)
       by (leads.lead x) t = went refl
@@ -505,7 +505,7 @@ module _ (most : ℕ) (words : List ℕ) (long : rightLength most words ≡ true
   place-23 p = rw broken
 
   all-23 : Broken most words
-  unfolding posted slotted ran figured chained accountExported standingExported led wrote asked.figures asked.figuresVerdict chains.chain chains.chainVerdict look.accountAsked look.standing leads.leadAsked leads.leadVerdict gate then
+  unfolding posted slotted ran figured chained accountExported standingExported led wrote queries.figures queries.figuresVerdict chains.chain chains.chainVerdict look.accountQuery look.standing leads.leadQuery leads.leadVerdict gate then
   all-23 = record {
     post = λ p count. ap (λ (x : Stated). x .outcome) (on-call most words true _ _ long refl) ∙ call-23 (post p count);
     slot = λ old two. ap (λ (x : Slotted). x .outcome) (on-call most words (eqb (length old) 2) _ _ long (eq-eqb (length old) 2 two)) ∙ call-23 slot;

@@ -14,10 +14,10 @@ use Rattle.terms.specs.Figures.{roundedUp, finish, finishVerdict, admissionVerd
 use Rattle.terms.specs.State.{accountsHold, sound, placeVerdict}
 use Rattle.terms.specs.Start.{opening, noState, startVerdict, start}
 use Rattle.carrying.specs.Carry.{carry}
-use Rattle.terms.specs.Asked.{figuresVerdict, figures}
+use Rattle.terms.specs.Queries.{figuresVerdict, figures}
 use Rattle.terms.specs.Chain.{named, follows, chainTo, chainFigure, nameVerdict, circleVerdict, followingVerdict, chainVerdict, chain}
 use Rattle.terms.specs.Input.{inputVerdict}
-use Rattle.lead_parts.specs.Lead.{leadOf, leadVerdict, leadAsked}
+use Rattle.lead_parts.specs.Lead.{leadOf, leadVerdict, leadQuery}
 use Rattle.table_bytes.specs.Reading.{next, fieldRead, rowFieldsRead, rowRead, itemsRead, lastVerdict, settled, readTable, placesBy, numbersBy}
 use Rattle.table_bytes.specs.Writing.{tableNumbers, tableBytes, writeVerdict, writeTable}
 use Rattle.rule.specs.Rule.{eligible, later, firstEligible, served, passed, after}
@@ -28,12 +28,12 @@ use Rattle.layout.specs.Numbers.{numbersTable}
 use Rattle.starts.specs.Starts.{begun}
 use Rattle.carrying.specs.OldWords.{oldRoomOf, oldRightLength, oldWordsState}
 use Rattle.carrying.specs.Fits.{fitsInto}
-use Rattle.asking.specs.Look.{accountAsked, standing}
+use Rattle.queries.specs.Look.{accountQuery, standing}
 use Rattle.ordering.specs.Order.{needHolds, lastHolding, filledUp}
 use Rattle.ordered_bytes.specs.OrderBytes.{listedVerdict, orderRead, orderBytes}
 use Rattle.outcomes.specs.Outcomes.{refusalCode}
 use Rattle.justrave.specs.Exported.{onState, posted, slotted, ran, leaves, started, startedOf, carriedOver, figured, chained, accountExported, standingExported, led, wrote, ordered}
-use Rattle.on_words.specs.Rows.{wordsIn, startRows, numberRows, carryRows, postRows, slotRows, runRows, askedRows, chainRows, writeRows, lookRows, roomRows, orderRows, wordsThrice, numbersThrice, needRows, lengthRows, Pass, All-pass}
+use Rattle.on_words.specs.Rows.{wordsIn, startRows, numberRows, carryRows, postRows, slotRows, runRows, queryRows, chainRows, writeRows, lookRows, roomRows, orderRows, wordsThrice, numbersThrice, needRows, lengthRows, Pass, All-pass}
 
 start-pass : Pass startRows
 unfolding roomOf rightLength placesFrom wordsState stateWords joined paired refusalCode wordsIn total every gate then heldTo fieldsVerdict eachPlace tailVerdict rateSumVerdict needFits needFitsVerdict offeredRowVerdict verdictBy roundedUp finish finishVerdict admissionVerdict tableOf writtenOver opening noState startVerdict start leaves lastGroup combined laterGroups numberOf next fieldRead rowFieldsRead rowRead itemsRead placesBy numbersBy lastVerdict settled readTable begun started startRows
@@ -59,9 +59,9 @@ run-pass : Pass runRows
 unfolding roomOf rightLength placesFrom wordsState stateWords joined paired refusalCode wordsIn total every gate then heldTo fieldsVerdict eachPlace tailVerdict rateSumVerdict needFits needFitsVerdict offeredRowVerdict verdictBy upTo accountsHold sound eligible later firstEligible served passed after grantOf advanced inputVerdict slotsState slotsLog slotsVerdict runVerdict run onState ran runRows
 run-pass = refl
 
-asked-pass : Pass askedRows
-unfolding roomOf rightLength placesFrom wordsState stateWords joined paired refusalCode wordsIn total every gate then heldTo fieldsVerdict eachPlace tailVerdict rateSumVerdict needFits needFitsVerdict offeredRowVerdict verdictBy upTo accountsHold sound roundedUp finish placeVerdict figuresVerdict figures inputVerdict leadOf leadVerdict leadAsked onState figured led askedRows
-asked-pass = refl
+query-pass : Pass queryRows
+unfolding roomOf rightLength placesFrom wordsState stateWords joined paired refusalCode wordsIn total every gate then heldTo fieldsVerdict eachPlace tailVerdict rateSumVerdict needFits needFitsVerdict offeredRowVerdict verdictBy upTo accountsHold sound roundedUp finish placeVerdict figuresVerdict figures inputVerdict leadOf leadVerdict leadQuery onState figured led queryRows
+query-pass = refl
 
 chain-pass : Pass chainRows
 unfolding roomOf rightLength placesFrom wordsState stateWords joined paired refusalCode wordsIn total every gate then heldTo fieldsVerdict eachPlace tailVerdict rateSumVerdict needFits needFitsVerdict offeredRowVerdict verdictBy upTo accountsHold sound roundedUp finish placeVerdict named follows chainTo chainFigure nameVerdict circleVerdict followingVerdict chainVerdict chain onState chained chainRows
@@ -72,11 +72,11 @@ unfolding roomOf rightLength placesFrom wordsState stateWords joined paired refu
 write-pass = refl
 
 look-pass : Pass lookRows
-unfolding roomOf rightLength placesFrom wordsState stateWords joined paired refusalCode wordsIn total every gate then heldTo fieldsVerdict eachPlace tailVerdict rateSumVerdict needFits needFitsVerdict offeredRowVerdict verdictBy upTo accountsHold sound placeVerdict accountAsked standing onState accountExported standingExported lookRows
+unfolding roomOf rightLength placesFrom wordsState stateWords joined paired refusalCode wordsIn total every gate then heldTo fieldsVerdict eachPlace tailVerdict rateSumVerdict needFits needFitsVerdict offeredRowVerdict verdictBy upTo accountsHold sound placeVerdict accountQuery standing onState accountExported standingExported lookRows
 look-pass = refl
 
 room-pass : Pass roomRows
-unfolding roomOf rightLength placesFrom wordsState stateWords joined paired refusalCode wordsIn total every gate then heldTo fieldsVerdict eachPlace tailVerdict rateSumVerdict needFits needFitsVerdict offeredRowVerdict verdictBy roundedUp finish finishVerdict admissionVerdict tableOf writtenOver opening noState startVerdict start leaves lastGroup combined laterGroups numberOf next fieldRead rowFieldsRead rowRead itemsRead placesBy numbersBy lastVerdict settled readTable begun started numbersTable startedOf upTo accountsHold sound eligible later firstEligible served passed after grantOf advanced withCount withPost done ruleVerdict called inputVerdict slotsState slotsLog slotsVerdict runVerdict run placeVerdict figuresVerdict figures accountAsked standing onState posted slotted ran figured accountExported standingExported roomRows
+unfolding roomOf rightLength placesFrom wordsState stateWords joined paired refusalCode wordsIn total every gate then heldTo fieldsVerdict eachPlace tailVerdict rateSumVerdict needFits needFitsVerdict offeredRowVerdict verdictBy roundedUp finish finishVerdict admissionVerdict tableOf writtenOver opening noState startVerdict start leaves lastGroup combined laterGroups numberOf next fieldRead rowFieldsRead rowRead itemsRead placesBy numbersBy lastVerdict settled readTable begun started numbersTable startedOf upTo accountsHold sound eligible later firstEligible served passed after grantOf advanced withCount withPost done ruleVerdict called inputVerdict slotsState slotsLog slotsVerdict runVerdict run placeVerdict figuresVerdict figures accountQuery standing onState posted slotted ran figured accountExported standingExported roomRows
 room-pass = refl
 
 order-pass : Pass orderRows
@@ -84,7 +84,7 @@ unfolding joined refusalCode total every gate then heldTo fieldsVerdict eachPlac
 order-pass = refl
 
 need-pass : Pass needRows
-unfolding roomOf rightLength placesFrom wordsState stateWords joined paired refusalCode wordsIn total every gate then heldTo fieldsVerdict eachPlace tailVerdict rateSumVerdict needFits needFitsVerdict offeredRowVerdict verdictBy roundedUp finish finishVerdict admissionVerdict tableOf writtenOver opening noState startVerdict start leaves lastGroup combined laterGroups numberOf next fieldRead rowFieldsRead rowRead itemsRead placesBy numbersBy lastVerdict settled readTable begun started numbersTable startedOf upTo accountsHold sound oldRoomOf oldRightLength fitsInto oldWordsState carry carriedOver withCount withPost done ruleVerdict called onState posted eligible later firstEligible served passed after grantOf advanced slotted inputVerdict slotsState slotsLog slotsVerdict runVerdict run ran placeVerdict figuresVerdict figures leadOf leadVerdict leadAsked figured led named follows chainTo chainFigure nameVerdict circleVerdict followingVerdict chainVerdict chain chained groupsOf numberBytes tableNumbers tableBytes writeVerdict writeTable wrote accountAsked standing accountExported standingExported bind without needHolds lastHolding filledUp listedVerdict orderRead orderBytes ordered wordsThrice numbersThrice needRows
+unfolding roomOf rightLength placesFrom wordsState stateWords joined paired refusalCode wordsIn total every gate then heldTo fieldsVerdict eachPlace tailVerdict rateSumVerdict needFits needFitsVerdict offeredRowVerdict verdictBy roundedUp finish finishVerdict admissionVerdict tableOf writtenOver opening noState startVerdict start leaves lastGroup combined laterGroups numberOf next fieldRead rowFieldsRead rowRead itemsRead placesBy numbersBy lastVerdict settled readTable begun started numbersTable startedOf upTo accountsHold sound oldRoomOf oldRightLength fitsInto oldWordsState carry carriedOver withCount withPost done ruleVerdict called onState posted eligible later firstEligible served passed after grantOf advanced slotted inputVerdict slotsState slotsLog slotsVerdict runVerdict run ran placeVerdict figuresVerdict figures leadOf leadVerdict leadQuery figured led named follows chainTo chainFigure nameVerdict circleVerdict followingVerdict chainVerdict chain chained groupsOf numberBytes tableNumbers tableBytes writeVerdict writeTable wrote accountQuery standing accountExported standingExported bind without needHolds lastHolding filledUp listedVerdict orderRead orderBytes ordered wordsThrice numbersThrice needRows
 need-pass = refl
 
 length-pass : Pass lengthRows
@@ -92,4 +92,4 @@ unfolding roomOf rightLength placesFrom wordsState stateWords joined paired refu
 length-pass = refl
 
 pub all-pass : All-pass
-all-pass = (start-pass, number-pass, carry-pass, post-pass, slot-pass, run-pass, asked-pass, chain-pass, write-pass, look-pass, room-pass, order-pass, need-pass, length-pass, refl)
+all-pass = (start-pass, number-pass, carry-pass, post-pass, slot-pass, run-pass, query-pass, chain-pass, write-pass, look-pass, room-pass, order-pass, need-pass, length-pass, refl)

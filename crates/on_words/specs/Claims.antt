@@ -14,7 +14,7 @@ use Rattle.terms.specs.State.{State, sound, Shaped}
 use Rattle.terms.specs.Table.{Table}
 use Rattle.terms.specs.Answers.{Answer, accepted}
 use Rattle.terms.specs.Start.{start}
-use Rattle.terms.specs.Asked as asked
+use Rattle.terms.specs.Queries as queries
 use Rattle.terms.specs.Chain as chains
 use Rattle.lead_parts.specs.Lead as leads
 use Rattle.table_bytes.specs.Reading.{readTable}
@@ -24,7 +24,7 @@ use Rattle.rule.specs.Log.{run}
 use Rattle.layout.specs.Words.{roomOf, rightLength, stateWords, stateOf}
 use Rattle.layout.specs.Numbers.{allNumbers, numbersTable, rightNumbers}
 use Rattle.starts.specs.Starts.{begun}
-use Rattle.asking.specs.Look as look
+use Rattle.queries.specs.Look as look
 use Rattle.outcomes.specs.Outcomes.{answerCode, wrongLength}
 use Rattle.justrave.specs.Exported.{Stated, stated, posted, slotWords, slotStated, slotted, runStated, ran, started, startedOf, figuresOutput, figured, chainOutput, chained, lookOutput, accountExported, stands, standingExported, leadOutput, led, writeOutput, wrote}
 
@@ -65,7 +65,7 @@ Run-by-value = (most room : ℕ) (s : State) (log : List ℕ) → Fits most room
 abbrev pub Figures-by-value : Type 0
 Figures-by-value =
     (most room : ℕ) (s : State) (p j : ℕ) (old : List ℕ) → Fits most room s → length old ≡ 2
-    → figured most (stateWords s) p j old ≡ figuresOutput old (asked.figures room s p j)
+    → figured most (stateWords s) p j old ≡ figuresOutput old (queries.figures room s p j)
 
 -- as many names are lent as the words have room for places
 abbrev pub Chain-by-value : Type 0
@@ -76,7 +76,7 @@ Chain-by-value =
 abbrev pub Account-by-value : Type 0
 Account-by-value =
     (most room : ℕ) (s : State) (p : ℕ) (old : List ℕ) → Fits most room s → length old ≡ 2
-    → accountExported most (stateWords s) p old ≡ lookOutput old (look.accountAsked room s p)
+    → accountExported most (stateWords s) p old ≡ lookOutput old (look.accountQuery room s p)
 
 abbrev pub Standing-by-value : Type 0
 Standing-by-value =
@@ -86,7 +86,7 @@ Standing-by-value =
 abbrev pub Lead-by-value : Type 0
 Lead-by-value =
     (most room : ℕ) (s : State) (p : ℕ) (log : List ℕ) (old : List ℤ) → Fits most room s → length old ≡ 1
-    → led most (stateWords s) p log old ≡ leadOutput old (leads.leadAsked room s p log)
+    → led most (stateWords s) p log old ≡ leadOutput old (leads.leadQuery room s p log)
 
 -- the writer takes a table and no state, so that 23 is the boundary's own test here
 abbrev pub Write-by-value : Type 0

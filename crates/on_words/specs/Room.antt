@@ -47,7 +47,7 @@ pub record Alike (old-most most extra : ℕ) (words : List ℕ) : Type 0 where
   pub start : (bytes : List ℕ) (first : ℕ) → Unless-2 extra (started old-most bytes first words) (started most bytes first (more extra words))
   pub numbers : (numbers : List ℕ) (first : ℕ)
       → Unless-2 extra (startedOf old-most numbers first words) (startedOf most (moreNumbers extra numbers) first (more extra words))
-  -- the questions
+  -- the queries
   pub figures : (p j : ℕ) (old : List ℕ) → figured most (more extra words) p j old ≡ figured old-most words p j old
   -- each further place has a name, and whatever these are makes no difference
   pub chain : (p : ℕ) (names past old : List ℕ) → length past ≡ extra → chained most (more extra words) p (names ++ past) old ≡ chained old-most words p names old

@@ -73,84 +73,84 @@ pub data After : Type 0 where
   wrote-as : Wrote → After
 
 pub record Row : Type 0 where
-  pub asked : After
+  pub query : After
   pub written : After
 
 abbrev pub starting : (bytes : List ℕ) (first : ℕ) (words : List ℕ) → (after : List ℕ) (outcome : ℕ) → Row
 starting bytes first words after o = record {
-  asked = stated-as (started maxPlaces bytes first words);
+  query = stated-as (started maxPlaces bytes first words);
   written = stated-as (record { words = after; outcome = o });
 }
 
 abbrev pub numbering : (numbers : List ℕ) (first : ℕ) (words : List ℕ) → (after : List ℕ) (outcome : ℕ) → Row
 numbering numbers first words after o = record {
-  asked = stated-as (startedOf maxPlaces numbers first words);
+  query = stated-as (startedOf maxPlaces numbers first words);
   written = stated-as (record { words = after; outcome = o });
 }
 
 abbrev pub carrying : (old words : List ℕ) → (after : List ℕ) (outcome : ℕ) → Row
 carrying old words after o = record {
-  asked = stated-as (carriedOver oldPlaces maxPlaces old words);
+  query = stated-as (carriedOver oldPlaces maxPlaces old words);
   written = stated-as (record { words = after; outcome = o });
 }
 
 abbrev pub posting : (words : List ℕ) (place count : ℕ) → (after : List ℕ) (outcome : ℕ) → Row
 posting words p count after o = record {
-  asked = stated-as (posted maxPlaces words p count);
+  query = stated-as (posted maxPlaces words p count);
   written = stated-as (record { words = after; outcome = o });
 }
 
 abbrev pub slotting : (words old : List ℕ) → (after answer : List ℕ) (outcome : ℕ) → Row
 slotting words old after answer o = record {
-  asked = slotted-as (slotted maxPlaces words old);
+  query = slotted-as (slotted maxPlaces words old);
   written = slotted-as (record { words = after; answer = answer; outcome = o });
 }
 
 abbrev pub running : (words log : List ℕ) → (after written : List ℕ) (outcome : ℕ) → Row
 running words log after bytes o = record {
-  asked = ran-as (ran maxPlaces words log);
+  query = ran-as (ran maxPlaces words log);
   written = ran-as (record { words = after; log = bytes; outcome = o });
 }
 
 abbrev pub figuring : (words : List ℕ) (place j : ℕ) (old : List ℕ) → (answer : List ℕ) (outcome : ℕ) → Row
 figuring words p j old answer o = record {
-  asked = figured-as (figured maxPlaces words p j old);
+  query = figured-as (figured maxPlaces words p j old);
   written = figured-as (record { answer = answer; outcome = o });
 }
 
 abbrev pub chaining : (words : List ℕ) (place : ℕ) (names old : List ℕ) → (answer : List ℕ) (outcome : ℕ) → Row
 chaining words p names old answer o = record {
-  asked = figured-as (chained maxPlaces words p names old);
+  query = figured-as (chained maxPlaces words p names old);
   written = figured-as (record { answer = answer; outcome = o });
 }
 
 abbrev pub looking : (words : List ℕ) (place : ℕ) (old : List ℕ) → (answer : List ℕ) (outcome : ℕ) → Row
 looking words p old answer o = record {
-  asked = figured-as (accountExported maxPlaces words p old);
+  query = figured-as (accountExported maxPlaces words p old);
   written = figured-as (record { answer = answer; outcome = o });
 }
 
 abbrev pub standing : (words old : List ℕ) → (answer : List ℕ) (outcome : ℕ) → Row
 standing words old answer o = record {
-  asked = figured-as (standingExported maxPlaces words old);
+  query = figured-as (standingExported maxPlaces words old);
   written = figured-as (record { answer = answer; outcome = o });
 }
 
 abbrev pub leading : (words : List ℕ) (place : ℕ) (log : List ℕ) (old : List ℤ) → (answer : List ℤ) (outcome : ℕ) → Row
 leading words p log old answer o = record {
-  asked = led-as (led maxPlaces words p log old);
+  query = led-as (led maxPlaces words p log old);
   written = led-as (record { answer = answer; outcome = o });
 }
 
 abbrev pub writing : (words buffer old : List ℕ) → (after answer : List ℕ) (outcome : ℕ) → Row
 writing words buffer old after answer o = record {
-  asked = wrote-as (wrote maxPlaces words buffer old);
+  query = wrote-as (wrote maxPlaces words buffer old);
   written = wrote-as (record { buffer = after; answer = answer; outcome = o });
 }
 
 abbrev pub ordering : (bytes buffer old : List ℕ) → (after answer : List ℕ) (outcome : ℕ) → Row
 ordering bytes buffer old after answer o = record {
-  asked = wrote-as (ordered maxPlaces bytes buffer old);
+  query = wrote-as (ordered maxPlaces bytes buffer old);
   written = wrote-as (record { buffer = after; answer = answer; outcome = o });
 }
 
@@ -263,8 +263,8 @@ runRows =
     ∷ running (threeEach ++ 0 ∷ []) (90 ∷ []) (threeEach ++ 0 ∷ []) (90 ∷ []) 255
     ∷ []
 
-unfoldable pub askedRows : List Row
-askedRows =
+unfoldable pub queryRows : List Row
+queryRows =
     -- the wait and the finish figure of place 1; no transfer is refused 5 at the place asked for, 5 + 256 × 2
     figuring fresh 1 1 (90 ∷ 91 ∷ []) (3 ∷ 7 ∷ []) 0
     ∷ figuring fresh 1 0 (90 ∷ 91 ∷ []) (90 ∷ 91 ∷ []) 517
@@ -428,7 +428,7 @@ Sizes = map (sizeOf maxPlaces) (0 ∷ 1 ∷ 2 ∷ 3 ∷ maxPlaces ∷ suc maxPla
 
 -- what each row asks for is what is written
 abbrev pub Pass : List Row → Type 0
-Pass rows = map (λ r. r .asked) rows ≡ map (λ r. r .written) rows
+Pass rows = map (λ r. r .query) rows ≡ map (λ r. r .written) rows
 
 abbrev pub All-pass : Type 0
-All-pass = Pass startRows × Pass numberRows × Pass carryRows × Pass postRows × Pass slotRows × Pass runRows × Pass askedRows × Pass chainRows × Pass writeRows × Pass lookRows × Pass roomRows × Pass orderRows × Pass needRows × Pass lengthRows × Sizes
+All-pass = Pass startRows × Pass numberRows × Pass carryRows × Pass postRows × Pass slotRows × Pass runRows × Pass queryRows × Pass chainRows × Pass writeRows × Pass lookRows × Pass roomRows × Pass orderRows × Pass needRows × Pass lengthRows × Sizes

@@ -1,8 +1,8 @@
 // From a table's bytes to the bytes of the table in order.
 use arbiter::state::Arbiter;
-use asking::write::write_words;
 use ordering::order::order_laid;
 use ordering::refusing::turn_down;
+use queries::write::write_words;
 use starts::laying::lay_bytes;
 use terms::answers::OrderAnswer;
 use terms::answers::WriteAnswer;

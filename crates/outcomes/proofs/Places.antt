@@ -31,7 +31,7 @@ use Rattle.terms.specs.Input.{inputVerdict}
 use Rattle.terms.specs.Start.{opening, noState, startVerdict, start, turnedDown}
 use Rattle.terms.specs.Longer.{longer}
 use Rattle.carrying.specs.Carry.{asState, carryVerdict, carry}
-use Rattle.terms.specs.Asked as asked
+use Rattle.terms.specs.Queries as queries
 use Rattle.terms.specs.Chain as chains
 use Rattle.terms.proofs.Checks.{held-open, offered-passes, fair}
 use Rattle.terms.proofs.Sound.{place-open, sound-table}
@@ -49,7 +49,7 @@ use Rattle.table_bytes.proofs.Opened.{numbers-open}
 use Rattle.starts.specs.Starts.{begun}
 use Rattle.ordering.specs.Order.{found, orderOf}
 use Rattle.ordered_bytes.specs.OrderBytes.{listedVerdict, orderRead, orderBytes}
-use Rattle.asking.specs.Look as look
+use Rattle.queries.specs.Look as look
 use Rattle.outcomes.specs.Outcomes.{placeCode, refusalCode}
 use Rattle.outcomes.specs.Places.{ofATable, ofAState, ofAnOrder, ofAChain, ofAnyCall, placed, AmongRefusals, Code-tells, Code-apart, Start-names-below, Table-start-names-below, Carry-names-below, Calls-name-below, Runs-name-below, Leads-name-below, Figures-name-below, Chains-name-below, Write-names-below, Orders-name-below, Looks-name-below, Standings-name-below}
 
@@ -426,23 +426,23 @@ refuses-place : (P : Refusal → Type 0) → P (refusal 23) → P (refusal 11) �
 unfolding placeVerdict
 refuses-place P unsound absent limit s p = refuses-gate P (refusal 23) (sound limit s) _ unsound (refuses-gate P (refusal 11) (ltb p (s .table .count)) faultless absent (refuses-none P))
 
-refuses-asked : (limit : ℕ) (s : State) (p : ℕ) → Refuses (AmongRefusals ofAState limit) (placeVerdict limit s p)
-refuses-asked limit = refuses-place (AmongRefusals ofAState limit) (plain limit 23 refl refl) (plain limit 11 refl refl) limit
+refuses-query : (limit : ℕ) (s : State) (p : ℕ) → Refuses (AmongRefusals ofAState limit) (placeVerdict limit s p)
+refuses-query limit = refuses-place (AmongRefusals ofAState limit) (plain limit 23 refl refl) (plain limit 11 refl refl) limit
 
 -- past 23 and 11 there is room for as many places as the table has
 few-places : (limit : ℕ) (s : State) (p : ℕ) → placeVerdict limit s p ≡ faultless → s .table .count ≤ limit
 few-places limit s p ok = fair limit (s .table) (sound-table limit s (place-open limit s p ok .0)) .count-most
 
 pub figures-name-below : Figures-name-below
-unfolding asked.figures asked.figuresVerdict
+unfolding queries.figures queries.figuresVerdict
 figures-name-below limit s p j r e =
-    by _ _ (asked.figuresVerdict limit s p j)
-    (refuses-then (AmongRefusals ofAState limit) (placeVerdict limit s p) _ (refuses-asked limit s p) (λ ok. refuses-held (AmongRefusals ofAState limit) (needBounds p) j (at-place limit 5 p refl refl (few ok)))) e
+    by _ _ (queries.figuresVerdict limit s p j)
+    (refuses-then (AmongRefusals ofAState limit) (placeVerdict limit s p) _ (refuses-query limit s p) (λ ok. refuses-held (AmongRefusals ofAState limit) (needBounds p) j (at-place limit 5 p refl refl (few ok)))) e
   where
     few : placeVerdict limit s p ≡ faultless → p < limit
     few ok = omega (arith, place-open limit s p ok .1, few-places limit s p ok)
 
-    by : (x y : ℕ) (v : Verdict) → Refuses (AmongRefusals ofAState limit) v → resolve v (asked.figured x y) asked.refused ≡ asked.refused r → AmongRefusals ofAState limit r
+    by : (x y : ℕ) (v : Verdict) → Refuses (AmongRefusals ofAState limit) v → resolve v (queries.figured x y) queries.refused ≡ queries.refused r → AmongRefusals ofAState limit r
     by x y faultless h f = let z : _≡_ {A = ℕ} 0 1 = cc in absurd (omega arith)
     by x y (fault q) h f = let same : q ≡ r = cc in rw same at (h q refl)
 
@@ -463,9 +463,9 @@ chains-name-below limit s p names r e =
     few ok = few-rows limit (s .table .count) (s .table .requestors) (few-places limit s p ok)
 
 pub leads-name-below : Leads-name-below
-unfolding leads.leadAsked leads.leadVerdict
+unfolding leads.leadQuery leads.leadVerdict
 leads-name-below limit s p log r e =
-    by _ (leads.leadVerdict limit s p (length log)) (refuses-then (AmongRefusals ofAState limit) (placeVerdict limit s p) _ (refuses-asked limit s p) (λ ok. refuses-input limit (length log))) e
+    by _ (leads.leadVerdict limit s p (length log)) (refuses-then (AmongRefusals ofAState limit) (placeVerdict limit s p) _ (refuses-query limit s p) (λ ok. refuses-input limit (length log))) e
   where
     by : (x : ℤ) (v : Verdict) → Refuses (AmongRefusals ofAState limit) v → resolve v (leads.lead x) leads.refused ≡ leads.refused r → AmongRefusals ofAState limit r
     by x faultless h f = let z : _≡_ {A = ℕ} 0 1 = cc in absurd (omega arith)
@@ -532,14 +532,14 @@ orders-name-below limit bytes buffer r e = by (orderRead limit (numbersRead limi
     by (refused q) h f =
         let same : q ≡ r = cc in refuses-order-read limit (numbersRead limit bytes) (refuses-numbers limit (OrderRefusal limit) (order-refusals limit) bytes) r (h ∙ ap refused same)
 
--- a question that its checks turn down
+-- a query that its checks turn down
 refuses-looked : {X : Type 0} (limit : ℕ) (x : X) (v : Verdict) → Refuses (AmongRefusals ofAState limit) v → (r : Refusal) → resolve v (look.looked x) look.refused ≡ look.refused r → AmongRefusals ofAState limit r
 refuses-looked limit x faultless h r f = let z : _≡_ {A = ℕ} 0 1 = cc in absurd (omega arith)
 refuses-looked limit x (fault q) h r f = let same : q ≡ r = cc in rw same at (h q refl)
 
 pub looks-name-below : Looks-name-below
-unfolding look.accountAsked
-looks-name-below limit s p r e = refuses-looked limit _ (placeVerdict limit s p) (refuses-asked limit s p) r e
+unfolding look.accountQuery
+looks-name-below limit s p r e = refuses-looked limit _ (placeVerdict limit s p) (refuses-query limit s p) r e
 
 pub standings-name-below : Standings-name-below
 unfolding look.standing

@@ -16,7 +16,7 @@ use Rattle.terms.specs.Refusals.{originOf, refusal}
 use Rattle.terms.specs.Answers.{refused}
 use Rattle.terms.specs.Start.{start}
 use Rattle.carrying.specs.Carry.{OldState, carry}
-use Rattle.terms.specs.Asked as asked
+use Rattle.terms.specs.Queries as queries
 use Rattle.terms.specs.Chain as chains
 use Rattle.lead_parts.specs.Lead as leads
 use Rattle.table_bytes.specs.Reading.{readTable}
@@ -25,7 +25,7 @@ use Rattle.rule.specs.Calls.{Call, called}
 use Rattle.rule.specs.Log.{run}
 use Rattle.starts.specs.Starts.{begun}
 use Rattle.ordered_bytes.specs.OrderBytes.{orderBytes}
-use Rattle.asking.specs.Look as look
+use Rattle.queries.specs.Look as look
 use Rattle.outcomes.specs.Outcomes.{refusalCode, wrongLength}
 
 abbrev pub Below : ℕ → Named → Type 0
@@ -95,10 +95,10 @@ Runs-name-below = (limit : ℕ) (s : State) (log : List ℕ) (r : Refusal) → r
 
 abbrev pub Leads-name-below : Type 0
 Leads-name-below =
-    (limit : ℕ) (s : State) (p : ℕ) (log : List ℕ) (r : Refusal) → leads.leadAsked limit s p log ≡ leads.refused r → AmongRefusals ofAState limit r
+    (limit : ℕ) (s : State) (p : ℕ) (log : List ℕ) (r : Refusal) → leads.leadQuery limit s p log ≡ leads.refused r → AmongRefusals ofAState limit r
 
 abbrev pub Figures-name-below : Type 0
-Figures-name-below = (limit : ℕ) (s : State) (p j : ℕ) (r : Refusal) → asked.figures limit s p j ≡ asked.refused r → AmongRefusals ofAState limit r
+Figures-name-below = (limit : ℕ) (s : State) (p j : ℕ) (r : Refusal) → queries.figures limit s p j ≡ queries.refused r → AmongRefusals ofAState limit r
 
 abbrev pub Chains-name-below : Type 0
 Chains-name-below =
@@ -112,7 +112,7 @@ abbrev pub Orders-name-below : Type 0
 Orders-name-below = (limit : ℕ) (bytes buffer : List ℕ) (r : Refusal) → orderBytes limit bytes buffer .answer ≡ writing.refused r → AmongRefusals ofAnOrder limit r
 
 abbrev pub Looks-name-below : Type 0
-Looks-name-below = (limit : ℕ) (s : State) (p : ℕ) (r : Refusal) → look.accountAsked limit s p ≡ look.refused r → AmongRefusals ofAState limit r
+Looks-name-below = (limit : ℕ) (s : State) (p : ℕ) (r : Refusal) → look.accountQuery limit s p ≡ look.refused r → AmongRefusals ofAState limit r
 
 abbrev pub Standings-name-below : Type 0
 Standings-name-below = (limit : ℕ) (s : State) (r : Refusal) → look.standing limit s ≡ look.refused r → AmongRefusals ofAState limit r

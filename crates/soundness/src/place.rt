@@ -1,4 +1,4 @@
-// What every question about a place is checked for first.
+// What every query about a place is checked for first.
 use crate::soundness::is_sound;
 use layout::words::count;
 use terms::refusals::Cause;

@@ -15,7 +15,7 @@ use Rattle.terms.specs.Table.{Table, noRequestor, requestorClear, reques
 use Rattle.terms.specs.State.{State, noAccount, accountClear, accountAt, creditsHold, accountsHold, sound, Shaped, placeVerdict}
 use Rattle.terms.specs.Refusals.{Verdict, gate, then}
 use Rattle.terms.specs.Figures.{admissionVerdict}
-use Rattle.terms.specs.Asked.{figuresVerdict, figures}
+use Rattle.terms.specs.Queries.{figuresVerdict, figures}
 use Rattle.terms.specs.Longer.{longerTable, longer}
 use Rattle.terms.proofs.Checks.{fair, Fair}
 use Rattle.terms.proofs.Sound.{sound-table}

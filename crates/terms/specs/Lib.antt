@@ -10,6 +10,6 @@ pub mod TableResult
 pub mod State
 pub mod Start
 pub mod Longer
-pub mod Asked
+pub mod Queries
 pub mod Chain
 pub mod Input

@@ -68,6 +68,6 @@ sound limit s =
 abbrev pub atPlace : State → (place : ℕ) → Verdict → Verdict
 atPlace s p next = gate (refusal 11) (ltb p (s .table .count)) next
 
--- what every question about a place is checked for first: 23, then 11
+-- what every query about a place is checked for first: 23, then 11
 unfoldable pub placeVerdict : ℕ → State → (place : ℕ) → Verdict
 placeVerdict limit s p = gate (refusal 23) (sound limit s) (atPlace s p faultless)

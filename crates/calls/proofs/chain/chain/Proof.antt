@@ -2,7 +2,7 @@
 use mathlib.Core.Path.{_∙_}
 use borrow.Author.Needs.{needs}
 use Rattle.terms.specs.Chain.{chain}
-use Rattle.arbiter.proofs.ByValue.{right-full, asked-held}
+use Rattle.arbiter.proofs.ByValue.{right-full, query-held}
 use Rattle.arbiter.proofs.Shapes.{words-full}
 use Rattle.calls.proofs.chain.chain.Statement.{statement}
 use Rattle.calls.proofs.chain.chain.Tie as tie
@@ -16,7 +16,7 @@ chain-words-requires c κs = right-full (c .before .before .before .args .s .wor
 returns : tie.Need-returns
 returns c =
     let a = c .before .before .before .before .args in
-    c .chain-words .ensures ∙ asked-held (a .s .words) (words-full (a .s) (c .before .before .before .before .good .0)) (λ k s. chain k s (a .place) (a .names .now))
+    c .chain-words .ensures ∙ query-held (a .s .words) (words-full (a .s) (c .before .before .before .before .good .0)) (λ k s. chain k s (a .place) (a .names .now))
 
 pub chain-spec : {M : Type 1} → statement M
 chain-spec = tie.close (tie.spec slice-aggregate-chain-words chain-words-requires returns)

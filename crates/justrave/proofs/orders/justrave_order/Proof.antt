@@ -6,7 +6,7 @@ use Rattle.terms.specs.Limits.{maxPlaces}
 use Rattle.table_bytes.specs.Writing.{writeAnswerOf}
 use Rattle.outcomes.proofs.Places.{orders-name-below}
 use Rattle.justrave.specs.Exported.{writeWords, writeCode}
-use Rattle.justrave.proofs.Asked.{one-put, order-shut, order-output}
+use Rattle.justrave.proofs.Queries.{one-put, order-shut, order-output}
 use Rattle.justrave.proofs.orders.justrave_order.Statement.{statement}
 use Rattle.justrave.proofs.orders.justrave_order.Tie as tie
 

@@ -1,2 +1,0 @@
--- The laws of questions about words.
-pub mod Asked

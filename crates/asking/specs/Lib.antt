@@ -1,2 +1,0 @@
--- What a look into a state tells. What the other questions come to stands in terms, lead_parts and table_bytes.
-pub mod Look

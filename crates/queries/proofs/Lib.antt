@@ -1,0 +1,2 @@
+-- The laws of queries about words.
+pub mod Queries
