@@ -87,7 +87,7 @@ fn caused(by: Origin) {
 
 fn named(place: Named) {
     match place {
-        Named::Nowhere => {}
+        Named::None => {}
         Named::Place(p) => told(PLACE, p as u64),
     }
 }

@@ -9,9 +9,9 @@ use Rattle.outcomes.specs.Outcomes.{refusalCode}
 use Rattle.outcomes.specs.Places.{Below}
 
 module _ (r q : Refusal) (e : r ≡ q) where
-  pub code-nowhere : r .place ≡ named.Nowhere → r .number ≡ refusalCode q
+  pub code-no-place : r .place ≡ named.None → r .number ≡ refusalCode q
   unfolding refusalCode
-  code-nowhere h = rw (← e, h) (omega arith)
+  code-no-place h = rw (← e, h) (omega arith)
 
   pub code-place : (p : ℕ) → r .place ≡ named.Place p → r .number + 256 * (p + 1) ≡ refusalCode q
   unfolding refusalCode
@@ -22,5 +22,5 @@ module _ (r q : Refusal) (e : r ≡ q) where
 
 -- below a room is below the largest N
 pub below-more : (room most : ℕ) (x : Named) → room ≤ most → Below room x → Below most x
-below-more room most named.Nowhere h b = tt
+below-more room most named.None h b = tt
 below-more room most (named.Place p) h b = omega arith

@@ -124,9 +124,9 @@ any-range : (n : ℕ) → ofAnyCall n ≡ true → InRange n
 any-range n e = cases (ofATable n) (table-range n) (λ a. cases (ofAState n) (state-range n) (λ b. cases (ofAnOrder n) (order-range n) (λ c. chain-range n (rw (a, b, c) at e))))
 
 place-same : (x y : Named) → placeCode x ≡ placeCode y → x ≡ y
-place-same named.Nowhere named.Nowhere e = refl
-place-same named.Nowhere (named.Place p) e = absurd (omega arith)
-place-same (named.Place p) named.Nowhere e = absurd (omega arith)
+place-same named.None named.None e = refl
+place-same named.None (named.Place p) e = absurd (omega arith)
+place-same (named.Place p) named.None e = absurd (omega arith)
 place-same (named.Place p) (named.Place q) e = let same : p ≡ q = omega arith in ap named.Place same
 
 pub code-tells : Code-tells

@@ -8,7 +8,7 @@ use Rattle.terms.specs.Answers.{Answer, accepted, granted, idle, refused}
 
 -- a place that a refusal names, as place + 1
 abbrev pub placeCode : Named → ℕ
-placeCode named.Nowhere = 0
+placeCode named.None = 0
 placeCode (named.Place p) = p + 1
 
 unfoldable pub refusalCode : Refusal → ℕ

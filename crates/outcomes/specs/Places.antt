@@ -29,7 +29,7 @@ use Rattle.queries.specs.Look as look
 use Rattle.outcomes.specs.Outcomes.{refusalCode, wrongLength}
 
 abbrev pub Below : ℕ → Named → Type 0
-Below limit named.Nowhere = Unit {0}
+Below limit named.None = Unit {0}
 Below limit (named.Place p) = p < limit
 
 -- the numbers of a start's refusals and of a table's writer: 1 to 10, 12, 14 and 17; none that a state causes
@@ -57,7 +57,7 @@ abbrev pub placed : ℕ → Bool
 placed n = pick (inRange 3 5 n) true (pick (eqb n 7) true (inRange 16 17 n))
 
 abbrev pub namesPlace : Named → Bool
-namesPlace named.Nowhere = false
+namesPlace named.None = false
 namesPlace (named.Place p) = true
 
 -- a refusal with one of these numbers

@@ -19,7 +19,7 @@ pub fn refusal_code(c: Cause) -> u64
     let number = r.number as u64;
     let place = r.place;
     match place {
-        Named::Nowhere => number,
+        Named::None => number,
         Named::Place(p) => number + 256 * ((p + 1) as u64),
     }
 }

@@ -40,21 +40,21 @@ inputNumber (input.NeedAboveBurst p) = 17
 
 -- the place: 3, 4, 5, 7, 16 and 17 name one
 abbrev pub inputPlace : InputRefusal → Named
-inputPlace input.Denominator = named.Nowhere
-inputPlace input.Count = named.Nowhere
+inputPlace input.Denominator = named.None
+inputPlace input.Count = named.None
 inputPlace (input.Rate p) = named.Place p
 inputPlace (input.Burst p) = named.Place p
 inputPlace (input.Need p) = named.Place p
-inputPlace input.RateSum = named.Nowhere
+inputPlace input.RateSum = named.None
 inputPlace (input.Finish p) = named.Place p
-inputPlace input.BytesEnd = named.Nowhere
-inputPlace input.NumberForm = named.Nowhere
-inputPlace input.BytesLeft = named.Nowhere
-inputPlace input.NoSuchPlace = named.Nowhere
-inputPlace input.FirstSlot = named.Nowhere
-inputPlace input.TooLong = named.Nowhere
-inputPlace input.BufferShort = named.Nowhere
-inputPlace input.NoOrder = named.Nowhere
+inputPlace input.BytesEnd = named.None
+inputPlace input.NumberForm = named.None
+inputPlace input.BytesLeft = named.None
+inputPlace input.NoSuchPlace = named.None
+inputPlace input.FirstSlot = named.None
+inputPlace input.TooLong = named.None
+inputPlace input.BufferShort = named.None
+inputPlace input.NoOrder = named.None
 inputPlace (input.Circle p) = named.Place p
 inputPlace (input.NeedAboveBurst p) = named.Place p
 
@@ -67,7 +67,7 @@ stateNumber state.Unsound = 23
 -- the papers' number, place and cause of each case of the code's enum
 abbrev pub refusalOf : Cause → Refusal
 refusalOf (cause.Input i) = record { number = inputNumber i; place = inputPlace i; origin = origin.Input }
-refusalOf (cause.State s) = record { number = stateNumber s; place = named.Nowhere; origin = origin.State }
+refusalOf (cause.State s) = record { number = stateNumber s; place = named.None; origin = origin.State }
 
 -- the state is the cause of 21 to 29, among them numbers that are not given yet, and the input of every other
 abbrev pub originOf : ℕ → Origin
@@ -79,7 +79,7 @@ Cause-by-number = (c : Cause) → refusalOf c .origin ≡ originOf (refusalOf c 
 
 -- the refusal with number n, and the one that names place p
 abbrev pub refusal : ℕ → Refusal
-refusal n = record { number = n; place = named.Nowhere; origin = originOf n }
+refusal n = record { number = n; place = named.None; origin = originOf n }
 
 abbrev pub refusalAt : ℕ → ℕ → Refusal
 refusalAt n p = record { number = n; place = named.Place p; origin = originOf n }

@@ -38,7 +38,7 @@ pub enum Cause {
 
 // The place that a refusal names.
 pub enum Named {
-    Nowhere,
+    None,
     Place(usize),
 }
 
@@ -95,17 +95,17 @@ fn input_place(i: InputRefusal) -> Named
         InputRefusal::Finish(p) => Named::Place(p),
         InputRefusal::Circle(p) => Named::Place(p),
         InputRefusal::NeedAboveBurst(p) => Named::Place(p),
-        InputRefusal::Denominator => Named::Nowhere,
-        InputRefusal::Count => Named::Nowhere,
-        InputRefusal::RateSum => Named::Nowhere,
-        InputRefusal::BytesEnd => Named::Nowhere,
-        InputRefusal::NumberForm => Named::Nowhere,
-        InputRefusal::BytesLeft => Named::Nowhere,
-        InputRefusal::NoSuchPlace => Named::Nowhere,
-        InputRefusal::FirstSlot => Named::Nowhere,
-        InputRefusal::TooLong => Named::Nowhere,
-        InputRefusal::BufferShort => Named::Nowhere,
-        InputRefusal::NoOrder => Named::Nowhere,
+        InputRefusal::Denominator => Named::None,
+        InputRefusal::Count => Named::None,
+        InputRefusal::RateSum => Named::None,
+        InputRefusal::BytesEnd => Named::None,
+        InputRefusal::NumberForm => Named::None,
+        InputRefusal::BytesLeft => Named::None,
+        InputRefusal::NoSuchPlace => Named::None,
+        InputRefusal::FirstSlot => Named::None,
+        InputRefusal::TooLong => Named::None,
+        InputRefusal::BufferShort => Named::None,
+        InputRefusal::NoOrder => Named::None,
     }
 }
 
@@ -142,7 +142,7 @@ impl Cause {
             },
             Cause::State(s) => Refusal {
                 number: state_number(s),
-                place: Named::Nowhere,
+                place: Named::None,
                 origin: Origin::State,
             },
         }

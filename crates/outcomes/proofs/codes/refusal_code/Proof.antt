@@ -2,7 +2,7 @@
 use native.Mathlib.Omega.{arith}
 use borrow.Author.Needs.{needs}
 use Rattle.terms.specs.Limits.{maxPlaces}
-use Rattle.outcomes.proofs.Numbering.{code-nowhere, code-place, code-below}
+use Rattle.outcomes.proofs.Numbering.{code-no-place, code-place, code-below}
 use Rattle.outcomes.proofs.codes.refusal_code.Statement.{statement}
 use Rattle.outcomes.proofs.codes.refusal_code.Tie as tie
 
@@ -41,7 +41,7 @@ add-result-2 c =
     omega (arith, code-below (at-refusal .result) _ (at-refusal .ensures) maxPlaces _ (at-place .given .1) (at-pre), at-struct-known .given)
 
 returns : tie.Need-returns
-returns c = code-nowhere (c .before .before .before .refusal .result) _ (c .before .before .before .refusal .ensures) (c .enum-told .given .1)
+returns c = code-no-place (c .before .before .before .refusal .result) _ (c .before .before .before .refusal .ensures) (c .enum-told .given .1)
 
 returns-2 : tie.Need-returns-2
 returns-2 c =
