@@ -28,7 +28,7 @@ const ABSENT: usize = 254;
 ///
 /// An arbiter has room for `ROOM` places, [`Table::PLACES`] where nothing is said. A line with fewer places can do with less, and pays in
 /// memory and in time for the places that there is room for. A table with more places than that is refused 2; but for this the room
-/// changes no answer. Document 01 knows the largest number of places alone: room is an addition to it.
+/// changes no answer (clause 15.2).
 ///
 /// ```
 /// use justrave::{Arbiter, Slots};
@@ -56,7 +56,7 @@ pub struct Arbiter<const ROOM: usize = MAX_PLACES> {
     places: [[u64; 6]; ROOM],
 }
 
-/// How an accepted slot ended. Both ways tell the slot's stamp.
+/// How an accepted slot ended (clause 5.6). Both ways tell the slot's stamp.
 #[derive(Clone, Copy, Debug, PartialEq, Eq, Hash)]
 pub enum SlotAnswer {
     /// The line is this place's for the slot.
@@ -68,14 +68,14 @@ pub enum SlotAnswer {
 /// What the table promises a place, in slots.
 #[derive(Clone, Copy, Debug, PartialEq, Eq, Hash)]
 pub struct Figures {
-    /// The wait, rounded up to whole slots: at most so many slots in a row go to the places above.
+    /// The wait, rounded up to whole slots (clause 7.2): at most so many slots in a row go to the places above.
     pub wait: Slots,
     /// The finish figure: where at least as many transfers wait as were asked about, so many are granted within these slots. It is the
-    /// wait before it is rounded plus the time of the transfers at the place's rate, and only the sum is rounded up.
+    /// wait before it is rounded plus the time of the transfers at the place's rate, and only the sum is rounded up (clauses 7.3 and 10.5).
     pub finish: Slots,
 }
 
-/// What a place has saved up, and what waits there.
+/// What a place has saved up, and what waits there (clause 11.3).
 #[derive(Clone, Copy, Debug, PartialEq, Eq, Hash)]
 pub struct Account {
     /// Its credit. A transfer costs the table's denominator.
@@ -84,7 +84,7 @@ pub struct Account {
     pub backlog: Transfers,
 }
 
-/// Where a line stands.
+/// Where a line stands (clause 11.3).
 #[derive(Clone, Copy, Debug, PartialEq, Eq, Hash)]
 pub struct Standing {
     /// The number of the slot that comes next.
@@ -110,7 +110,7 @@ impl Arbiter {
     /// # Errors
     ///
     /// For the bytes, number by number, 8, 9 and 1 to 5, and 17 behind each place's last number; then 10, 6, 7; and then 12 for the slot
-    /// number.
+    /// number (clause 13.3).
     ///
     /// ```
     /// use justrave::{Arbiter, Slots};
@@ -160,7 +160,8 @@ impl<const ROOM: usize> Arbiter<ROOM> {
     ///
     /// # Errors
     ///
-    /// For the table 1 and 2; for each place 3, 4, 5 and 17, before the next place is looked at; then 6 and 7, and for the slot number 12.
+    /// For the table 1 and 2; for each place 3, 4, 5 and 17, before the next place is looked at; then 6 and 7, and for the slot number 12
+    /// (clause 13.3).
     ///
     /// ```
     /// use justrave::{Arbiter, Requestor, Slots, Table, Transfers};
@@ -189,7 +190,8 @@ impl<const ROOM: usize> Arbiter<ROOM> {
     /// # Errors
     ///
     /// Those of [`start_in_room`](Arbiter::start_in_room). Unlike any other call that is refused, it does not leave the state as it was:
-    /// every word is 0, and every call but a restart is refused 23. Start another arbiter where the old state may still be wanted.
+    /// every word is 0 (clause 1.6), and every call but a restart is refused 23. Start another arbiter where the old state may still be
+    /// wanted.
     ///
     /// ```
     /// use justrave::{Arbiter, Slots, Transfers};
@@ -238,11 +240,11 @@ impl<const ROOM: usize> Arbiter<ROOM> {
         Refusal::check(outcome)
     }
 
-    /// Adds transfers (0 is allowed) to those that wait at a place.
+    /// Adds transfers (0 is allowed) to those that wait at a place (clause 5.1).
     ///
     /// # Errors
     ///
-    /// 23, 11, and 21 where more than 65,535 would wait.
+    /// 23, 11, and 21 where more than 65,535 would wait (clause 13.7).
     ///
     /// ```
     /// use justrave::{Arbiter, Cause, Slots, Transfers};
@@ -260,11 +262,11 @@ impl<const ROOM: usize> Arbiter<ROOM> {
         Refusal::check(outcome)
     }
 
-    /// Does one slot, and tells whose it is.
+    /// Does one slot, and tells whose it is (clauses 5.2 to 5.6).
     ///
     /// # Errors
     ///
-    /// 23, and 22 at the last slot number. A refused slot uses no stamp up.
+    /// 23, and 22 at the last slot number (clause 13.8). A refused slot uses no stamp up.
     ///
     /// ```
     /// use justrave::{Arbiter, SlotAnswer, Slots, Transfers};
@@ -287,11 +289,11 @@ impl<const ROOM: usize> Arbiter<ROOM> {
         })
     }
 
-    /// Does as many slots as the log has bytes, and writes for each the place that was granted, or [`Arbiter::LOG_IDLE`].
+    /// Does as many slots as the log has bytes, and writes for each the place that was granted, or [`Arbiter::LOG_IDLE`] (clause 6.1).
     ///
     /// # Errors
     ///
-    /// 23, 13, and 22 where the slot number would pass its limit. The log is then what it was.
+    /// 23, 13, and 22 where the slot number would pass its limit (clause 13.9). The log is then what it was.
     ///
     /// ```
     /// use justrave::{Arbiter, Slots, Transfers};
@@ -312,11 +314,11 @@ impl<const ROOM: usize> Arbiter<ROOM> {
     }
 
     /// How many slots in a row can go to the places above at most, and within how many slots `transfers` are granted to the place
-    /// once at least so many wait there. They may be more than its burst holds.
+    /// once at least so many wait there (clause 7.4). They may be more than its burst holds.
     ///
     /// # Errors
     ///
-    /// 23, 11, and 5 where `transfers` is not 1 to 255.
+    /// 23, 11, and 5 where `transfers` is not 1 to 255 (clause 13.11).
     ///
     /// ```
     /// use justrave::{Arbiter, Figures, Slots, Transfers};
@@ -342,12 +344,13 @@ impl<const ROOM: usize> Arbiter<ROOM> {
     /// The chain of a place is this place, the one that it follows, and so on to one that follows nobody. Let one transfer be posted to
     /// that first link, and to each next link one between the grant to the link that it follows and the slot after it, each where nothing
     /// waits yet. Then the place is granted within the chain figure, counted in slots from the first post on, whatever else is posted.
-    /// The figure is each link's finish figure for one transfer, all added up.
+    /// The figure is each link's finish figure for one transfer, all added up (clauses 9.2 and 9.4).
     ///
     /// # Errors
     ///
     /// 23; 11 where the place is not there, or any that is followed; 16 where places follow one another in a circle, with the lowest
-    /// place that is on one. A place that follows itself is on a circle too. Both look at all places of the table, not at the chain alone.
+    /// place that is on one (clauses 9.3 and 13.12). A place that follows itself is on a circle too. Both look at all places of the table,
+    /// not at the chain alone.
     ///
     /// ```
     /// use justrave::{Arbiter, Slots};
@@ -384,12 +387,12 @@ impl<const ROOM: usize> Arbiter<ROOM> {
         Refusal::check(outcome).map(|()| Slots(answer[0]))
     }
 
-    /// How far a place is ahead of its rate over a log: D times its grants, less its rate times the log's length. Below 0 it has
-    /// fallen behind. The log need not be this arbiter's; bytes that are no place of the table count for nobody.
+    /// How far a place is ahead of its rate over a log (clause 6.3): D times its grants, less its rate times the log's length. Below 0 it
+    /// has fallen behind. The log need not be this arbiter's; bytes that are no place of the table count for nobody.
     ///
     /// # Errors
     ///
-    /// 23, 11, 13.
+    /// 23, 11, 13 (clause 13.10).
     ///
     /// ```
     /// use justrave::{Arbiter, Slots};
@@ -416,13 +419,13 @@ impl<const ROOM: usize> Arbiter<ROOM> {
         Refusal::check(outcome).map(|()| answer[0])
     }
 
-    /// Writes the table's bytes to the buffer's start and tells how many they are; the rest of the buffer is left alone.
+    /// Writes the table's bytes to the buffer's start and tells how many they are; the rest of the buffer is left alone (clause 3.5).
     /// [`Arbiter::TABLE_ROOM`] bytes are always enough.
     ///
     /// # Errors
     ///
     /// 23; 17 and 7, only where no start of today takes the table, as in a state that was started before 17 was tested; and 14 where the
-    /// buffer is too short.
+    /// buffer is too short (clause 13.4).
     ///
     /// ```
     /// use justrave::{Arbiter, Slots};
@@ -451,11 +454,11 @@ impl<const ROOM: usize> Arbiter<ROOM> {
         Refusal::check(outcome).map(|()| answer[0] as usize)
     }
 
-    /// The credit of a place, and how many transfers wait there.
+    /// The credit of a place, and how many transfers wait there (clause 11.3).
     ///
     /// # Errors
     ///
-    /// 23, 11.
+    /// 23, 11 (clause 13.13).
     ///
     /// ```
     /// use justrave::{Account, Arbiter, Slots, Transfers};
@@ -477,11 +480,11 @@ impl<const ROOM: usize> Arbiter<ROOM> {
         Ok(Account { credit, backlog: Transfers(backlog) })
     }
 
-    /// The number of the slot that comes next, and how many places there are.
+    /// The number of the slot that comes next, and how many places there are (clause 11.3).
     ///
     /// # Errors
     ///
-    /// 23.
+    /// 23 (clause 13.13).
     ///
     /// ```
     /// use justrave::{Arbiter, Slots, Standing};
@@ -501,7 +504,8 @@ impl<const ROOM: usize> Arbiter<ROOM> {
     }
 
     /// The words, [`STATE_WORDS`](Arbiter::STATE_WORDS) of them, to be kept somewhere, over a power cut for example. What each means is
-    /// the library's own matter; keep [`layout`](crate::layout)'s number beside them, for the day on which the unit is updated.
+    /// the library's own matter; keep [`layout`](crate::layout)'s number beside them, for the day on which the unit is updated
+    /// (clause 15.6).
     pub fn words(&self) -> &[u64] {
         // SAFETY: a struct of `repr(C)` that holds arrays of u64 and nothing else is as many u64 in a row as its size says. All of it
         // is borrowed for as long as the slice is.
@@ -515,10 +519,10 @@ impl<const ROOM: usize> Arbiter<ROOM> {
     }
 
     /// An arbiter from words that were kept; none where they are not as many as an arbiter with this room has. A whole state's words of
-    /// a smaller room become as many by zeros behind them, and answer as they did. Nothing else is tested here: each call tests its state, and one that
-    /// breaks a rule is refused 23; [`standing`](Arbiter::standing) tells that at once. The words are for the layout in which they were
-    /// written: if [`layout`](crate::layout) is another now, they may be ones that [`carry_over`](Arbiter::carry_over) takes, which has an
-    /// example of both, and if not start anew.
+    /// a smaller room become as many by zeros behind them, and answer as they did. Nothing else is tested here: each call tests its state,
+    /// and one that breaks a rule is refused 23; [`standing`](Arbiter::standing) tells that at once. The words are for the layout in which
+    /// they were written: if [`layout`](crate::layout) is another now, they may be ones that [`carry_over`](Arbiter::carry_over) takes,
+    /// which has an example of both, and if not start anew.
     ///
     /// ```
     /// use justrave::{Arbiter, Slots, Transfers};
@@ -546,16 +550,16 @@ impl<const ROOM: usize> Arbiter<ROOM> {
     }
 
     /// An arbiter from words that were kept with the number [`OLD_LAYOUT`](crate::OLD_LAYOUT), by a unit that took at most
-    /// [`OLD_PLACES`](crate::OLD_PLACES): with the same table, slot number, credits and backlogs, and nothing past its last place. Every
-    /// call on it but [`write_table`](Arbiter::write_table) then answers as it would have answered before; only who follows whom, and a
-    /// table to restart with, are given for this room. So does `write_table`, unless the table has a need above its burst, which a start took
-    /// at that time: this is carried over, and refused by `write_table` alone. Keep [`layout`](crate::layout)'s number beside its words from
-    /// then on.
+    /// [`OLD_PLACES`](crate::OLD_PLACES): with the same table, slot number, credits and backlogs, and nothing past its last place
+    /// (clauses 11.4 and 11.5). Every call on it but [`write_table`](Arbiter::write_table) then answers as it would have answered before;
+    /// only who follows whom, and a table to restart with, are given for this room. So does `write_table`, unless the table has a need
+    /// above its burst, which a start took at that time: this is carried over, and refused by `write_table` alone. Keep
+    /// [`layout`](crate::layout)'s number beside its words from then on.
     ///
     /// # Errors
     ///
     /// 255 where the words are not [`old_words`](crate::old_words) of a number of places that there was room for, or of more than there
-    /// is room for here. Then 23 where they break a rule; N above the places that they have room for breaks one.
+    /// is room for here (clause 15.3). Then 23 where they break a rule; N above the places that they have room for breaks one.
     ///
     /// ```
     /// use justrave::{Arbiter, Refusal, Slots, Standing, Transfers};

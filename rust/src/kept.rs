@@ -1,4 +1,4 @@
-//! Words that a unit keeps, and those that it finds after an update.
+//! Words that a unit keeps, and those that it finds after an update (clause 15.6).
 
 use crate::sys;
 

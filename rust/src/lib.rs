@@ -2,7 +2,8 @@
 //!
 //! Time on the line is cut into **slots**, and a slot carries at most one **transfer**. The arbiter says, slot by slot, whose
 //! transfer goes next. Each requestor has a place, 0 the most urgent, with a rate, a burst and a need; the table of them is
-//! given as bytes or as numbers ([`Table`]). What the arbiter answers is proved; this crate is the safe door to it for Rust, and holds no rule of its own.
+//! given as bytes or as numbers ([`Table`]). What the arbiter answers is proved; this crate is the safe door to it for Rust, and holds no
+//! rule of its own. Clauses that are named here are those of `docs/SPECIFICATION.md`.
 //! Where nobody knows which requestor should have which place, [`order()`] finds places for all of them. Where one waits for
 //! another's grant, [`Arbiter::chain`] tells how long that takes at most.
 //!
@@ -20,7 +21,7 @@
 //! ```
 //!
 //! A call that is turned down changes nothing ([`Arbiter::restart`] alone then leaves no state) and says why with a number, with the
-//! place where one place is at fault, and with what caused it, the call's own input or the state ([`Refusal`]).
+//! place where one place is at fault, and with what caused it, the call's own input or the state ([`Refusal`]; clause 1.5).
 //!
 //! # Linking
 //!

@@ -1,4 +1,4 @@
-//! Places for requestors whose priorities nobody knows.
+//! Places for requestors whose priorities nobody knows (clauses 8.1 to 8.3).
 
 use crate::{sys, Refusal};
 
@@ -28,7 +28,7 @@ use crate::{sys, Refusal};
 /// # Errors
 ///
 /// For the bytes, number by number, 8, 9 and 1 to 5, and 17 behind each place's last number, where a place is one of the list; then 10 and
-/// 6; 15 where no order passes; and 14 where the buffer is too short. It is never 7.
+/// 6; 15 where no order passes; and 14 where the buffer is too short (clause 13.6). It is never 7.
 ///
 /// ```
 /// use justrave::{Cause, Refusal};

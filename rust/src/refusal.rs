@@ -1,4 +1,4 @@
-//! Why a call was turned down.
+//! Why a call was turned down (clause 1.5).
 
 use core::fmt;
 
@@ -26,9 +26,9 @@ pub enum Cause {
 /// ```
 #[derive(Clone, Copy, Debug, PartialEq, Eq, Hash)]
 pub struct Refusal {
-    /// The number that documents 01 and 02 give it: 1 to 17 or 21 to 23. 255 comes of old words that do not fit
-    /// ([`carry_over`](crate::Arbiter::carry_over)); from any other call it says that the library that was linked has states or tables of
-    /// another length than this crate was written for.
+    /// Its number: 1 to 17 (clauses 12.1 to 12.17) or 21 to 23 (clauses 12.21 to 12.23). 255 (clause 12.255) comes of old words that do not
+    /// fit ([`carry_over`](crate::Arbiter::carry_over)); from any other call it says that the library that was linked has states or tables
+    /// of another length than this crate was written for.
     pub number: u8,
     /// The place at fault, where the number names one (3, 4, 5, 7, 16, 17).
     pub place: Option<usize>,
@@ -37,7 +37,7 @@ pub struct Refusal {
 }
 
 impl Refusal {
-    /// What an outcome of the library means: 0 is accepted, a number stands in the low 8 bits, and above them a place plus 1.
+    /// What an outcome of the library means (clause 15.4): 0 is accepted, a number stands in the low 8 bits, and above them a place plus 1.
     pub(crate) fn check(outcome: u64) -> Result<(), Refusal> {
         if outcome == 0 {
             return Ok(());
@@ -75,7 +75,7 @@ impl Refusal {
     }
 }
 
-/// Numbers 21 to 29 are caused by the state, all others by the input.
+/// Numbers 21 to 29 are kept for the state, any other is the input's.
 fn cause(number: u8) -> Cause {
     match number {
         21..=29 => Cause::State,

@@ -2,7 +2,7 @@
 //! and [`crate::order()`] see to it that nothing is owed.
 //!
 //! A slice crosses as a pointer and a length. Where the length is 0 nothing is read or written behind the pointer, and it may be
-//! null. Memory that is lent for writing overlaps no other memory of the same call.
+//! null. Memory that is lent for writing overlaps no other memory of the same call (clause 15.7).
 
 #![allow(missing_docs)]
 

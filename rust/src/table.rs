@@ -1,4 +1,4 @@
-//! A table given as numbers.
+//! A table given as numbers (clauses 2.1 to 2.6).
 
 use core::slice;
 
@@ -62,7 +62,7 @@ pub struct Table<const ROOM: usize = MAX_PLACES> {
     pub requestors: [Requestor; ROOM],
 }
 
-/// A table's numbers in the order in which the library takes them.
+/// A table's numbers in the order in which the library takes them (clause 15.1).
 #[repr(C)]
 pub(crate) struct Numbers<const ROOM: usize> {
     denominator: u32,

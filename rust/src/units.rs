@@ -1,4 +1,4 @@
-//! Time and work. Both are counts, and one may never be passed as the other.
+//! Time and work (clause 1.3). Both are counts, and neither is taken for the other.
 
 use core::fmt;
 

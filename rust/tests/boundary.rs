@@ -1,5 +1,5 @@
-//! The library's functions as they are, without the wrapper: lent memory of every length, what a refused call leaves alone, and that
-//! nothing is written beside what was lent.
+//! The library's functions as they are, without the wrapper: lent memory of every length (clause 15.3), what a refused call leaves alone
+//! (clauses 1.5 and 1.6), and that nothing is written beside what was lent.
 
 use justrave::sys;
 

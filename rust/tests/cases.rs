@@ -1,8 +1,8 @@
-//! Document 01's bench examples through the wrapper, by their numbers. Nothing here knows the model.
+//! The worked cases of section 16 through the wrapper: cases 1 to 13 are clauses 16.1 to 16.13. Nothing here knows the model.
 
 use justrave::{Account, Arbiter, Cause, Figures, Refusal, Requestor, SlotAnswer, Slots, Standing, Table, Transfers};
 
-/// Table T.
+/// Table T (clause 16.1).
 const T: [u8; 10] = [0x04, 0x02, 0x01, 0x08, 0x01, 0x04, 0x01, 0x04, 0x01, 0x07];
 
 fn started(table: &[u8]) -> Arbiter {
@@ -16,7 +16,7 @@ fn refused(table: &[u8]) -> (u8, Option<usize>) {
     (refusal.number, refusal.place)
 }
 
-/// Case 3: T from slot 0 with three posted to each place.
+/// Clause 16.3: the state ahead of its slots.
 fn case_3() -> Arbiter {
     let mut line = started(&T);
     line.post(0, Transfers(3)).unwrap();
@@ -137,8 +137,8 @@ fn request_2_a_fitter_who_guessed_the_priorities() {
     assert_eq!(justrave::order(&hasty, &mut buffer), Err(refusal));
 }
 
-/// A display at place 2 follows the probe at place 1, and a handset at place 3 the display: finish figures of 7, 8 and 18 slots, below a
-/// pump with 10. The pump sends all it can.
+/// The figures of clause 16.15, and clause 9.4 below a pump that sends all it can: a display at place 2 follows the probe at place 1, and a
+/// handset at place 3 the display.
 #[test]
 fn request_4_a_handset_behind_a_display_behind_a_probe() {
     let mut line = started(&[10, 4, 1, 10, 1, 10, 2, 20, 1, 7, 3, 30, 1, 8, 4, 40, 1, 18]);

@@ -1,4 +1,4 @@
--- The table that words are, and how far it has been checked.
+-- The table that words are, and how far it has been checked by clause 13.1.
 use mathlib.Core.Path.{_≡_}
 use mathlib.Core.Bool.{true}
 use mathlib.Core.List.{List}

@@ -18,7 +18,7 @@ ghost use Rattle.terms.specs.Table.{rate, requestorsOf, tailVerdict, rateSumVer
 ghost use Rattle.layout.specs.Words.{rightLength};
 ghost use Rattle.admission.specs.Checked.{tableIn, Counted};
 
-// The part of check 2 that looks past place N-1.
+// The part of clause 12.2 that looks past place N-1.
 pub fn check_tail(words: &[u64]) -> Verdict
     requires { ⌜ rightLength maxPlaces (now words) ≡ true ⌝ }
     ensures { λ v. ⌜ verdictOf v ≡ tailVerdict (tableIn (now (words .entry))) ⌝ }
@@ -35,7 +35,7 @@ pub fn check_tail(words: &[u64]) -> Verdict
     Verdict::Faultless
 }
 
-// Check 6.
+// Clause 12.6.
 pub fn check_rate_sum(words: &[u64]) -> Verdict
     requires { ⌜ Counted maxPlaces (now words) × (total rate (requestorsOf (tableIn (now words))) < 2 ^ 64) ⌝ }
     ensures { λ v. ⌜ verdictOf v ≡ rateSumVerdict (tableIn (now (words .entry))) ⌝ }

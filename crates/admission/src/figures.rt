@@ -22,7 +22,7 @@ fn rounded_up(a: u64, b: u64) -> u64
     (a + (b - 1)) / b
 }
 
-// The reported wait of place p: B / R, rounded up.
+// The reported wait of place p (clause 7.2).
 pub fn wait(words: &[u64], p: usize) -> Slots
     requires { ⌜ Checked maxPlaces (now words) × (p < tableIn (now words) .count) ⌝ }
     ensures figure { λ r. ⌜ r .0 ≡ wait (tableIn (now (words .entry)) .denominator) (requestorsOf (tableIn (now (words .entry)))) p ⌝ }
@@ -32,8 +32,7 @@ pub fn wait(words: &[u64], p: usize) -> Slots
     Slots(rounded_up(bursts_above(words, p), left))
 }
 
-// The finish figure of its parts, B, R, the place's own rate n and j: B / R and j * D / n over one divisor, so that only their sum is
-// rounded up.
+// The finish figure of its parts, B, R, the place's own rate n and j, as one quotient (clause 7.3).
 fn finish_of(d: u64, bursts: u64, left: u64, n: u64, j: Transfers) -> Slots
     requires { ⌜ Parts maxPlaces d bursts left n (j .0) ⌝ }
     ensures figure { λ r. ⌜ r .0 ≡ finishOf d bursts left n (j .0) ⌝ }

@@ -1,4 +1,4 @@
-// Check 7.
+// Clause 12.7.
 use crate::figures::finish_is_within;
 use layout::words::count;
 use layout::words::denominator;

@@ -1,4 +1,4 @@
-// Check 17. It comes after 3, 4 and 5 of its row, by which j is small and D at most b: so the product of j and D fits.
+// Clause 12.17. It comes after 3, 4 and 5 of its row, by which j is small and D at most b: so the product of j and D fits.
 use terms::place::Requestor;
 use terms::refusals::Cause;
 use terms::refusals::InputRefusal;
@@ -18,7 +18,7 @@ pub fn need_fits(d: u64, r: Requestor) -> bool
     j.0 * d <= r.burst
 }
 
-// Check 17 of the requestor at place p, which passed 3, 4 and 5.
+// Clause 12.17 of the requestor at place p, which passed 3, 4 and 5.
 pub fn check_need_fits(d: u64, p: usize, r: Requestor) -> Verdict
     requires { ⌜ fieldsVerdict d p r ≡ faultless ⌝ }
     ensures { λ v. ⌜ verdictOf v ≡ needFitsVerdict d p r ⌝ }

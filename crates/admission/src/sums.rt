@@ -9,7 +9,7 @@ ghost use Rattle.terms.specs.Figures.{burstsAbove, ratesAbove};
 ghost use Rattle.layout.specs.Words.{wordCount};
 ghost use Rattle.admission.specs.Checked.{rowsIn};
 
-// The sum of the bursts above p: B of document 01.
+// The sum of the bursts above p: B of clause 7.1.
 pub fn bursts_above(words: &[u64], p: usize) -> u64
     requires { ⌜ (wordCount p ≤ length (now words)) × (burstsAbove p (rowsIn (now words)) < 2 ^ 64) ⌝ }
     ensures { λ r. ⌜ r ≡ burstsAbove p (rowsIn (now (words .entry))) ⌝ }
@@ -23,7 +23,7 @@ pub fn bursts_above(words: &[u64], p: usize) -> u64
     bursts
 }
 
-// The sum of the rates above p; R of document 01 is D less this.
+// The sum of the rates above p; R of clause 7.1 is D less this.
 pub fn rates_above(words: &[u64], p: usize) -> u64
     requires { ⌜ (wordCount p ≤ length (now words)) × (ratesAbove p (rowsIn (now words)) < 2 ^ 64) ⌝ }
     ensures { λ r. ⌜ r ≡ ratesAbove p (rowsIn (now (words .entry))) ⌝ }

@@ -1,5 +1,4 @@
--- A state and a table that are handed in by value, as the definitions have them. Every word of a state is read: two arbiters that are the
--- same state are the same.
+-- A state and a table that are handed in by value (clause 1.4), as the definitions have them.
 use mathlib.Core.Path.{_≡_}
 use lib.ListN.{length}
 use Rattle.lists.specs.Runs.{Result}
@@ -12,7 +11,7 @@ use Rattle.arbiter.specs.declared.state.Arbiter.{Arbiter}
 use Rattle.arbiter.specs.declared.table.Table as code
 use Rattle.arbiter.specs.declared.start.StartResult.{StartResult}
 
--- the state that an arbiter's words are
+-- the state that an arbiter's words are (clause 1.4)
 abbrev pub held : Arbiter → State
 held s = stateOf (s .words)
 
@@ -27,5 +26,6 @@ startResultOf r = record { state = held (r .state); answer = startAnswerOf (r .a
 abbrev pub Full : Arbiter → Type 0
 Full s = length (s .words) ≡ wordCount maxPlaces
 
+-- every word of a state is read: two arbiters that are the same state are the same (clause 1.4)
 abbrev pub Held-tells : Type 0
 Held-tells = (s t : Arbiter) → Full s → Full t → held s ≡ held t → s ≡ t

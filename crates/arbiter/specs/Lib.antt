@@ -1,2 +1,2 @@
--- What a table and a state that are handed in by value are in document 01's values.
+-- What a table and a state that are handed in by value are in the definitions.
 pub mod ByValue

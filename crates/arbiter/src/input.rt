@@ -1,4 +1,4 @@
-// How long a log or the program's input may be.
+// How long a log or slotlist's input may be.
 use crate::state::Arbiter;
 use terms::refusals::Cause;
 use terms::refusals::InputRefusal;
@@ -7,7 +7,7 @@ ghost use mathlib.Core.Path.{_≡_};
 ghost use Rattle.terms.specs.Refusals.{verdictOf};
 ghost use Rattle.terms.specs.Input.{inputVerdict};
 
-// Check 13.
+// Clause 12.13.
 pub fn check_input(bytes: usize) -> Verdict
     ensures { λ v. ⌜ verdictOf v ≡ inputVerdict bytes ⌝ }
 {

@@ -21,7 +21,7 @@ impl Arbiter {
     pub const MAX_DENOMINATOR: u64 = 65535;
 
     pub const MAX_PLACES: usize = 64;
-    // The largest N before request 5. States that were made under it are carried over.
+    // The largest N before request 5. States that were made under it are carried over (clause 11.4).
     pub const OLD_PLACES: usize = 16;
 
     pub const MAX_BURST: u64 = 16777216;
@@ -33,12 +33,12 @@ impl Arbiter {
     pub const MAX_BACKLOG: u64 = 65535;
 
     pub const MAX_SLOT: u64 = 4611686018427387904;
-    // The bytes of a log or of the program's input.
+    // The bytes of a log or of slotlist's input.
     pub const MAX_INPUT: usize = 65536;
     // The words of a state with room for the largest N.
     pub const WORDS: usize = HEAD + PLACE * Arbiter::MAX_PLACES;
 
-    // The limits' names in specs/ stand for these constants. It does nothing.
+    // The limits' names in specs/ (clause 2.1) stand for these constants. It does nothing.
     pub fn limits()
         ensures { λ _. do ⌜ (← ⟦Arbiter::MAX_DENOMINATOR⟧ .entry) ≡ maxDenominator ⌝ }
         ensures { λ _. do ⌜ (← ⟦Arbiter::MAX_PLACES⟧ .entry) ≡ maxPlaces ⌝ }

@@ -13,7 +13,7 @@ ghost use Rattle.terms.specs.Start.{noState};
 ghost use Rattle.layout.specs.Words.{stateOf, withTable};
 ghost use Rattle.arbiter.specs.ByValue.{held, given};
 
-// D, N and the rows. Those past place N-1 must be 0: check 2.
+// D, N and the rows. Those past place N-1 must be 0 (clause 2.6).
 pub struct Table {
     pub denominator: u64,
     pub count: usize,

@@ -65,7 +65,7 @@ pub fn number(x: u64) {
     io::print_decimal(STDOUT_FILENO, x);
 }
 
-// A line begins with its case; 0 is none of document 01's.
+// A line begins with its case; 0 is none of clauses 16.1 to 16.13.
 pub fn case(k: u64) {
     end();
     io::write_all(STDOUT_FILENO, b"case");

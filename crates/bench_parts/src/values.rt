@@ -69,7 +69,7 @@ pub fn two_places(d: u64, first: Requestor, second: Requestor) -> Table
     t
 }
 
-// Table T of document 01.
+// Table T of clause 16.1.
 pub fn t() -> Table
     ensures { λ t. ⌜ given t ≡ tableOf maxPlaces 4 2 (record { rate = 1; burst = 8; need = record { 0 = 1 }; within = record { 0 = 4 } } ∷ record { rate = 1; burst = 4; need = record { 0 = 1 }; within = record { 0 = 7 } } ∷ []) ⌝ }
 {

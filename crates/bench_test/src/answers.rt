@@ -223,7 +223,7 @@ pub fn replays(t: Table, first: u64, calls: &[u32]) {
 // The account of a place, and where the line stands: the slot number, and N.
 pub fn looks(s: Arbiter, place: usize) {
     match account(s, place) {
-        AccountAnswer::Told(a) => {
+        AccountAnswer::Account(a) => {
             let q = a.backlog;
             told(printing::CREDITS, a.credit);
             told(printing::BACKLOGS, q.0);

@@ -1,4 +1,5 @@
-// Document 01's cases, in its order; then the thin form, more of replay and of writing, looks into a state, and document 02's requests 2, 4, 5 and 6.
+// Cases 1 to 13 are clauses 16.1 to 16.13; then come the thin form, more of replay and of writing, looks into a state, and requests 2, 4,
+// 5 and 6.
 use crate::answers::admits;
 use crate::answers::carries;
 use crate::answers::chains;
@@ -38,7 +39,7 @@ fn cases_1_and_2() {
     figures_of(t_with(account(8, 0), account(4, 0), 0), 1);
 }
 
-// Table T from slot 0 with three transfers posted to each place: nine slots one by one, and three, after which case 4 has the credits.
+// Clauses 16.3 and 16.4: nine slots one by one, and three.
 fn cases_3_and_4() {
     let mut calls = [0u32; 33];
     calls[0] = 1;
@@ -52,7 +53,7 @@ fn cases_3_and_4() {
     replays(t(), 0, &calls[0..15]);
 }
 
-// The nine slots as a run, and the leads over its log.
+// Clauses 16.3 and 16.5: the nine slots as a run, and the leads over its log.
 fn cases_3_and_5() {
     let s = t_with(account(8, 3), account(4, 3), 0);
     let mut log = [170u8; 9];
@@ -106,7 +107,7 @@ fn cases_8_and_13() {
     reads_table(b"");
 }
 
-// A full backlog takes a post of 0; and the last slot that has a number, with the one after it.
+// Clauses 16.9 and 16.10: a full backlog; and the last slot that has a number, with the one after it.
 fn cases_9_and_10() {
     case(9);
     replays(t(), 0, &[1, 0, 65535, 1, 0, 0, 1, 0, 1]);
@@ -120,7 +121,7 @@ fn case_11() {
     figures_of(begun.state, 1);
 }
 
-// Place 1 always has a transfer waiting, and place 0 none before slot 11.
+// Clause 16.12: place 1 always waits, and place 0 not before slot 11.
 fn case_12() {
     let mut early = [170u8; 11];
     let mut late = [170u8; 13];
@@ -133,7 +134,7 @@ fn case_12() {
     runs(posted.state, &mut late);
 }
 
-// Granted, idle, 22 and 23.
+// Clause 1.4's slot through a reference: granted, idle, 22 and 23.
 fn thin_form() {
     lends(t_with(account(8, 1), account(4, 1), 0));
     lends(t_with(account(2, 1), account(2, 1), 0));
@@ -141,7 +142,7 @@ fn thin_form() {
     lends(t_with(account(9, 1), account(0, 0), 4611686018427387904));
 }
 
-// Refused posts before two slots, half a call, and a start that is refused.
+// Clause 10.8: refused posts before two slots, half a call, and a start that is refused.
 fn lists_of_calls() {
     case(0);
     replays(t(), 0, &[1, 0, 1, 1, 2, 1, 1, 0, 65536, 0, 0, 0, 0, 0, 0]);
@@ -151,7 +152,7 @@ fn lists_of_calls() {
     replays(t(), 4611686018427387905, &[1, 1, 2]);
 }
 
-// T is written into a buffer with a byte to spare, and into one that is a byte short.
+// Clause 3.5: T is written into a buffer with a byte to spare, and into one that is a byte short.
 fn written() {
     let mut roomy = [170u8; 11];
     let mut short = [170u8; 9];
@@ -161,7 +162,7 @@ fn written() {
     writes_table(t(), &mut short);
 }
 
-// Document 02, request 2: T's requestors the other way round, then with one slot less for the probe, and with a rate of 0 at place 1.
+// Clauses 8.1 and 8.2: T's requestors the other way round, then with one slot less for the probe, and with a rate of 0 at place 1.
 fn put_in_order() {
     case(0);
     orders(two_places(4, row(1, 4, 7), row(1, 8, 4)));
@@ -171,7 +172,7 @@ fn put_in_order() {
     orders(two_places(4, row(1, 4, 6), row(0, 8, 4)));
 }
 
-// Document 02, request 4: T's probe behind its pump, the two behind each other, and the probe behind a place that is not there.
+// Clauses 9.2 and 9.3: T's probe behind its pump, the two behind each other, and the probe behind a place that is not there.
 fn one_behind_the_other() {
     let s = t_with(account(8, 0), account(4, 0), 0);
     case(0);
@@ -182,7 +183,7 @@ fn one_behind_the_other() {
     chains(s, 0, b"\xff\x02");
 }
 
-// T after the first two slots of case 3 as an old unit kept it, with this N.
+// T after the first two slots of clause 16.3 as an old unit kept it, with this N.
 fn old_t(n: u64) -> OldArbiter {
     let mut words = [0u64; OldArbiter::WORDS];
     words[0] = 4;
@@ -203,7 +204,7 @@ fn old_t(n: u64) -> OldArbiter {
     OldArbiter { words: words }
 }
 
-// Document 02, request 5: an old state in the middle of its run, one whose N counts a place of zeros in, and one with N above the old limit.
+// Clause 11.4: an old state in the middle of its run, one whose N counts a place of zeros in, and one with N above the old limit.
 fn carried_over() {
     case(0);
     carries(old_t(2));
@@ -213,8 +214,8 @@ fn carried_over() {
     carries(old_t(Arbiter::OLD_PLACES as u64 + 1));
 }
 
-// Document 02, request 6: T with two transfers in the pump's need, which its burst just holds, and with three; the probe's with two, as a
-// table, as a list, as bytes that end behind it, and to be written.
+// Clause 16.17: T with two transfers in the pump's need, which its burst just holds, and with three; the probe's with two, as a table, as
+// a list, as bytes that end behind it, and to be written.
 fn needs_above_bursts() {
     let mut buffer = [170u8; 3];
     let long = two_places(4, row(1, 8, 4), needing(2, row(1, 4, 11)));
@@ -232,7 +233,7 @@ fn needs_above_bursts() {
     writes_table(long, &mut buffer);
 }
 
-// A place, one that is not there, and a state with a credit above its burst.
+// Clause 11.3: a place, one that is not there, and a state with a credit above its burst.
 fn looks_into_a_state() {
     let s = t_with(account(5, 3), account(2, 1), 7);
     case(0);

@@ -1,6 +1,6 @@
-// Document 01's cases through the calls by value, and beside them, as case 0, the thin form, replay, a short buffer, looks into a state, places
-// by need, an old state and needs above their bursts by value: what only Rattle code can call. The rows of refusals and edges are data for
-// the tests in Rust (tests/rows.txt), and those that no exported function reaches are proved rows (crates/cases).
+// Clauses 16.1 to 16.13 through the calls by value, as cases 1 to 13, and beside them, as case 0, the thin form, replay, a short buffer,
+// looks into a state, orders, chains, an old state and needs above their bursts: what only Rattle code can call. The rows of refusals and
+// edges are data for the tests in Rust (tests/rows.txt), and those that no exported function reaches are proved rows (crates/cases).
 //
 // A line has its case, what was handed back, and the answer, in letters and numbers:
 //

@@ -1,5 +1,5 @@
--- The results of the calls by value in document 01's values: the state that is handed back and the answer; a run's with the lent log; and
--- a table that was read.
+-- The results of the calls by value (clause 1.4) in the definitions' values: the state that is handed back and the answer; a run's with the
+-- lent log; and a table that was read.
 use mathlib.Core.List.{List}
 use Prim.Native.Nat.{ℕ}
 use Rattle.lists.specs.Runs.{Result}

@@ -1,2 +1,2 @@
--- What the calls by value hand back, in document 01's values.
+-- What the calls by value hand back (clause 1.4), in the definitions' values.
 pub mod ByValue

@@ -1,4 +1,4 @@
-// Admission of a table given as numbers: its checks 1 to 7 and 17.
+// Admission of a table given as numbers (clause 2.5): its checks 1 to 7 and 17 (clause 13.1).
 use arbiter::admit::admit;
 use arbiter::table::Table;
 use arbiter::table::lay_table;

@@ -1,4 +1,4 @@
-// A look into a state: the account of a place, and where the line stands.
+// A look into a state: the account of a place, and where the line stands (clause 11.3).
 use arbiter::state::Arbiter;
 use queries::look::account_words;
 use queries::look::standing_words;
@@ -9,7 +9,7 @@ ghost use Rattle.terms.specs.Limits.{maxPlaces};
 ghost use Rattle.arbiter.specs.ByValue.{held};
 ghost use Rattle.queries.specs.Look.{accountQuery, standing, accountAnswerOf, standingAnswerOf};
 
-// Refused: 23, 11.
+// Refused: 23, 11 (clause 13.13).
 pub fn account(s: Arbiter, place: usize) -> AccountAnswer
     ensures { λ a. ⌜ accountAnswerOf a ≡ accountQuery maxPlaces (held s) place ⌝ }
 {
@@ -17,7 +17,7 @@ pub fn account(s: Arbiter, place: usize) -> AccountAnswer
     account_words(&words, place)
 }
 
-// Refused: 23.
+// Refused: 23 (clause 13.13).
 pub fn standing(s: Arbiter) -> StandingAnswer
     ensures { λ a. ⌜ standingAnswerOf a ≡ standing maxPlaces (held s) ⌝ }
 {

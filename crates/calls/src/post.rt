@@ -1,4 +1,4 @@
-// A post adds a count to one place's backlog.
+// A post adds a count to one place's backlog (clause 5.1).
 use arbiter::state::Arbiter;
 use moves::posts::post_words;
 use terms::answers::PostAnswer;
@@ -14,7 +14,7 @@ pub struct PostResult {
     pub answer: PostAnswer,
 }
 
-// Refused: 23, 11, 21.
+// Refused: 23, 11, 21 (clause 13.7).
 pub fn post(s: Arbiter, place: usize, count: Transfers) -> PostResult
     ensures { λ r. ⌜ postResultOf r ≡ called maxPlaces (held s) (post place (count .0)) ⌝ }
 {

@@ -1,5 +1,5 @@
-// A table from its bytes. It is read into words, as a start at slot 0 reads it, and handed back from them: there is no second walk over
-// the rows' bytes, and a table that was read passes the start's own checks.
+// A table from its bytes (clause 3.3). It is read into words, as a start at slot 0 reads it, and handed back from them: there is no second
+// walk over the rows' bytes, and a table that was read passes the start's own checks.
 use arbiter::state::Arbiter;
 use arbiter::table::Table;
 use arbiter::table::table_of;
@@ -27,8 +27,8 @@ fn answer_of(a: StartAnswer) -> ReadAnswer
     }
 }
 
-// A refused reading hands back a table whose every field is 0. Refused: 1 to 5, 8 and 9 as the numbers are read, 17
-// behind each place, then 10, 6, 7.
+// A refused reading hands back a table whose every field is 0 (clause 1.6). Refused: 1 to 5, 8 and 9 as the numbers are read, 17 behind
+// each place, then 10, 6, 7 (clause 13.2).
 pub fn read_table(bytes: &[u8]) -> ReadResult
     ensures { λ r. ⌜ readResultOf r ≡ readTable maxPlaces (now (bytes .entry)) ⌝ }
 {

@@ -1,4 +1,4 @@
-// A run: as many slots as a lent log has bytes.
+// A run: as many slots as a lent log has bytes (clause 6.1).
 use arbiter::state::Arbiter;
 use moves::runs::run_words;
 use terms::answers::RunAnswer;
@@ -13,7 +13,7 @@ pub struct RunResult {
     pub answer: RunAnswer,
 }
 
-// Refused: 23, 13, 22. Then no byte is written.
+// Refused: 23, 13, 22 (clause 13.9). Then no byte is written.
 pub fn run(s: Arbiter, log: &mut [u8]) -> RunResult
     ensures { λ r. ⌜ outcomeOf r (now (log .exit)) ≡ run maxPlaces (held s) (now (log .entry)) ⌝ }
 {

@@ -1,4 +1,4 @@
-// A slot: the place that is granted, or nobody.
+// A slot: the place that is granted, or nobody (clauses 5.2 to 5.6).
 use arbiter::state::Arbiter;
 use moves::slots::slot_words;
 use terms::answers::SlotAnswer;
@@ -13,7 +13,7 @@ pub struct SlotResult {
     pub answer: SlotAnswer,
 }
 
-// Refused: 23, 22.
+// Refused: 23, 22 (clause 13.8).
 pub fn slot(s: Arbiter) -> SlotResult
     ensures { λ r. ⌜ slotResultOf r ≡ called maxPlaces (held s) slot ⌝ }
 {

@@ -1,6 +1,6 @@
--- An old state that was carried over runs on alike, for any old limit that is not above the new one: every list of calls gets the same
--- answers on the old state under the old limit and on the carried-over one under the new limit, and after it the two are still each other's,
--- the old one and the same with zeros put behind.
+-- Clause 11.5: an old state that was carried over (clause 11.4) goes on alike, for any old limit that is not above the new one: every list
+-- of calls gets the same answers on the old state under the old limit and on the carried-over one under the new limit, and after it the two
+-- are still each other's, the old one and the same with zeros put behind.
 use mathlib.Core.Path.{_≡_}
 use mathlib.Core.Bool.{true}
 use mathlib.Core.List.{List, _++_}
@@ -27,7 +27,7 @@ use Rattle.guarantees.specs.Counts.{Accepted, stateAfter, answersFrom}
 abbrev pub ran-longer : (extra : ℕ) → Outcome → Outcome
 ran-longer extra r = record { state = longer extra (r .state); answer = r .answer; log = r .log }
 
--- s under the old limit, and t under the new one: t is s with zeros put behind, and each further call comes to the same
+-- clause 11.5: s under the old limit, and t under the new one: t is s with zeros put behind, and each further call comes to the same
 pub record Alike (old new : ℕ) (s t : State) : Type 0 where
   pub behind : t ≡ longer (new - old) s
   -- and so any run, which is so many slots (guarantees, RunSlots)
@@ -35,12 +35,12 @@ pub record Alike (old new : ℕ) (s t : State) : Type 0 where
   pub lead : (p : ℕ) (log : List ℕ) → leadQuery new t p log ≡ leadQuery old s p log
   pub figures : (p j : ℕ) → queries.figures new t p j ≡ queries.figures old s p j
   pub chain : (p : ℕ) (names : List ℕ) → chains.chain new t p names ≡ chains.chain old s p names
-  -- the writer of today on both sides, with 17
+  -- the writer of today on both sides, with 17 (clause 11.5)
   pub write : (buffer : List ℕ) → writeTable new (t .table) buffer ≡ writeTable old (s .table) buffer
   pub account : (p : ℕ) → look.accountQuery new t p ≡ look.accountQuery old s p
   pub standing : look.standing new t ≡ look.standing old s
 
--- after any list of calls, none included
+-- clause 11.5 after any list of calls, none included
 abbrev pub Runs-on-alike : Type 0
 Runs-on-alike =
     (old new : ℕ) (o : OldState) → length (o .places) ≡ old → old ≤ new → carry old new o .answer ≡ accepted → (calls : List Call)
@@ -48,34 +48,35 @@ Runs-on-alike =
     (answers (called new) over calls ≡ answers (called old) (asState o) calls)
     × Alike old new (end (called old) (asState o) calls) (end (called new) over calls)
 
--- carried over in the middle of a run: the answers are those of the run that was not broken off
+-- clause 11.5, carried over in the middle of a run: the answers are those of the run that was not broken off
 abbrev pub Carried-mid-run : Type 0
 Carried-mid-run =
     (old new : ℕ) → old ≤ new → (s : State) → Shaped old s → (before after : List Call)
     → let r = carry old new (kept (end (called old) s before)) in
     r .answer ≡ accepted → answers (called old) s (before ++ after) ≡ answers (called old) s before ++ answers (called new) (r .state) after
 
--- N above the old limit is 23, though the new one has room for so many
+-- clause 11.4: N above the old limit is 23, though the new one has room for so many
 abbrev pub Count-above-is-23 : Type 0
 Count-above-is-23 = (old new : ℕ) (o : OldState) → old < o .count → carry old new o ≡ turnedDown new (refusal 23)
 
--- a sound old state is accepted, and what it is carried over to is a sound state of the new limit: what guarantees says of those holds of it
+-- clause 11.4: a sound old state is accepted, and what it is carried over to is a sound state of the new limit: what guarantees says of
+-- those holds of it
 abbrev pub Sound-is-carried : Type 0
 Sound-is-carried =
     (old new : ℕ) (o : OldState) → length (o .places) ≡ old → old ≤ new → sound old (asState o) ≡ true
     → let r = carry old new o in
     (r .answer ≡ accepted) × Shaped new (r .state) × (sound new (r .state) ≡ true)
 
--- From any sound state of an old unit: after any calls it is carried over, and the answers are those of the run that was not broken off. One
--- such state is that of a start with a need above its burst, which old units did not refuse (request 6).
+-- Clause 11.5 from any sound state of an old unit: after any calls it is carried over, and the answers are those of the run that was not
+-- broken off. One such state is that of a start with a need above its burst, which old units did not refuse (request 6).
 abbrev pub Carried-from-sound : Type 0
 Carried-from-sound =
     (old new : ℕ) → old ≤ new → (s : State) → Shaped old s → sound old s ≡ true → (before after : List Call)
     → let r = carry old new (kept (end (called old) s before)) in
     (r .answer ≡ accepted) × (answers (called old) s (before ++ after) ≡ answers (called old) s before ++ answers (called new) (r .state) after)
 
--- An old unit's line from an accepted start: after any calls it is carried over, and what is answered in a stretch that begins before that and
--- ends after it is what a stretch without it hears. So Demand3 says of it what it says of that one.
+-- Clause 11.5 of an old unit's line from an accepted start: after any calls it is carried over, and what is answered in a stretch that
+-- begins before that and ends after it is what a stretch without it hears. So Demand3 says of it what it says of that one.
 abbrev pub Carried-from-start : Type 0
 Carried-from-start =
     (old new : ℕ) → old ≤ new → (t : Table) (first : ℕ) → Accepted old t first → (before inside more : List Call)

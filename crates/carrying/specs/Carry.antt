@@ -1,5 +1,5 @@
--- Document 02, request 5: a state that was made under an old limit is carried over to a new one. Check: 23, with the old limit. Refused, the
--- state handed back is all 0, as of every call that makes a state.
+-- Clause 11.4: a state that was made under an old limit is carried over to a new one. Refused, the state handed back is all 0, as of every
+-- call that makes a state (clause 1.6).
 use mathlib.Core.List.{List, map}
 use Prim.Native.Nat.{ℕ, _-_}
 use Rattle.lists.specs.Pairs.{paired}
@@ -60,10 +60,11 @@ kept s = record {
 
 -- ---- carried over
 
+-- 23, with the old limit (clauses 11.4 and 13.14)
 abbrev pub carryVerdict : (old : ℕ) → OldState → Verdict
 carryVerdict old o = gate (refusal 23) (sound old (asState o)) faultless
 
--- from the old limit to the new one: the same table, slot number and accounts, and zeros past the last place
+-- clause 11.4, from the old limit to the new one: the same table, slot number and accounts, and zeros past the last place
 unfoldable pub carry : (old new : ℕ) → OldState → Result State Answer
 carry old new o =
     resolve (carryVerdict old o)

@@ -1,5 +1,5 @@
--- The words of an old state, layout 2: D, N and the slot number, and then, place after place, rate, burst, need, within, credit and backlog.
--- So they were kept, and that is fixed: nothing of today's layout is in it.
+-- The words of an old state, layout 2 (clause 15.6): D, N and the slot number, and then, place after place, rate, burst, need, within,
+-- credit and backlog. So they were kept, and that is fixed: nothing of today's layout is in it.
 use mathlib.Core.Bool.{Bool, _&&_}
 use mathlib.Core.List.{List}
 use Prim.Native.Nat.{ℕ, _+_, _-_, _*_, _/_}
@@ -36,7 +36,7 @@ oldPlaceIn words p = record {
   backlog = getD words (oldPlaceStart p + 5) 0;
 }
 
--- the old state that words with room for so many places were
+-- the old state that words with room for so many places were (clause 15.6)
 unfoldable pub oldWordsState : (room : ℕ) → List ℕ → OldState
 oldWordsState room words = record {
   denominator = getD words 0 0;
@@ -45,6 +45,7 @@ oldWordsState room words = record {
   places = placesFrom (oldPlaceIn words) 0 room;
 }
 
+-- with the room of the words (clause 11.4)
 abbrev pub oldStateOf : List ℕ → OldState
 oldStateOf words = oldWordsState (oldRoomOf words) words
 

@@ -1,5 +1,5 @@
--- Edges of numbers in groups and of a table's bytes, worked out by hand. Bytes are written in decimal; the comments have document
--- 01's hexadecimal.
+-- Edges of numbers as bytes (clauses 3.1 and 3.2), and of a table's reading and writing (clauses 3.3, 3.5, 13.2 and 13.4), worked out by
+-- hand. Bytes are in decimal, and in the comments in hexadecimal.
 use mathlib.Core.List.{List, [], _∷_, _++_}
 use Prim.Native.Nat.{ℕ, suc, _+_, _-_, _*_}
 use lib.ListN.{replicate}
@@ -71,13 +71,14 @@ unwritten t r = record { query = writing t (marked 3); written = written-as (wri
 unfoldable pub unread : Refusal → Reply
 unread r = read-as (refused r) allZero
 
+-- clauses 3.1 and 3.2
 unfoldable pub numberRows : List Row
 numberRows =
     -- refused 8: no byte; 80; four bytes that each say that another follows
     record { query = readingNumber []; written = number (stop (refusal 8)) }
     ∷ record { query = readingNumber (128 ∷ []); written = number (stop (refusal 8)) }
     ∷ record { query = readingNumber (128 ∷ 128 ∷ 128 ∷ 128 ∷ []); written = number (stop (refusal 8)) }
-    -- refused 9: a fifth byte with its top bit set, also where the bytes end with it; 80 80 80 80 80 and 80 80 80 80 80 01
+    -- refused 9: a fifth byte that says that another follows, also where none does; 80 80 80 80 80 and 80 80 80 80 80 01
     ∷ record { query = readingNumber (128 ∷ 128 ∷ 128 ∷ 128 ∷ 128 ∷ []); written = number (stop (refusal 9)) }
     ∷ record { query = readingNumber (128 ∷ 128 ∷ 128 ∷ 128 ∷ 128 ∷ 1 ∷ []); written = number (stop (refusal 9)) }
     -- 00 is the number 0; 80 00 and 80 80 80 80 00 are refused 9, not being in shortest form
@@ -135,8 +136,8 @@ takeRows =
     ∷ record { query = takingNumber (132 ∷ 0 ∷ []); written = taken-as Malformed }
     ∷ record { query = takingNumber (128 ∷ 128 ∷ 0 ∷ []); written = taken-as Malformed }
     ∷ record { query = takingNumber (128 ∷ 128 ∷ 128 ∷ 128 ∷ 0 ∷ []); written = taken-as Malformed }
-    -- a fifth byte that makes the number too large, 80 80 80 80 10 and FF FF FF FF 10; and one with its top bit set, FF FF FF FF 8F 00 and
-    -- 80 80 80 80 80
+    -- a fifth byte that makes the number too large, 80 80 80 80 10, FF FF FF FF 10; and one that says that another follows:
+    -- FF FF FF FF 8F 00 and 80 80 80 80 80
     ∷ record { query = takingNumber (128 ∷ 128 ∷ 128 ∷ 128 ∷ 16 ∷ []); written = taken-as Malformed }
     ∷ record { query = takingNumber (255 ∷ 255 ∷ 255 ∷ 255 ∷ 16 ∷ []); written = taken-as Malformed }
     ∷ record { query = takingNumber (255 ∷ 255 ∷ 255 ∷ 255 ∷ 143 ∷ 0 ∷ []); written = taken-as Malformed }
@@ -169,10 +170,11 @@ lendRows =
     ∷ record { query = lendingNumber 4294967295 6 (marked 6); written = lent-as 5 5 (255 ∷ 255 ∷ 255 ∷ 255 ∷ 15 ∷ marked 1) }
     ∷ []
 
+-- clauses 3.3 and 13.2
 unfoldable pub readRows : List Row
 readRows =
     record { query = reading bytesLong; written = read-as accepted tableLong }
-    -- the largest N; one byte fewer; the last of its places refused 3
+    -- the largest N, which is one byte (clause 16.16); one byte fewer; the last of its places refused 3
     ∷ record { query = reading (100 ∷ maxPlaces ∷ bytesPlaces maxPlaces); written = read-as accepted tableFull }
     ∷ record { query = reading (100 ∷ maxPlaces ∷ bytesPlaces (maxPlaces - 1) ++ 1 ∷ 100 ∷ 1 ∷ 144 ∷ []); written = unread (refusal 8) }
     ∷ record { query = reading (100 ∷ maxPlaces ∷ bytesPlaces (maxPlaces - 1) ++ 0 ∷ []); written = unread (refusalAt 3 (maxPlaces - 1)) }
@@ -213,6 +215,7 @@ readRows =
     ∷ record { query = reading (4 ∷ 2 ∷ 1 ∷ 8 ∷ 1 ∷ 3 ∷ 1 ∷ 4 ∷ 1 ∷ 6 ∷ []); written = unread (refusalAt 7 0) }
     ∷ []
 
+-- clauses 3.5 and 13.4
 unfoldable pub writeRows : List Row
 writeRows =
     -- the bytes beyond T's ten are left as they were; ten bytes are enough; nine and none are not, and none is written

@@ -1,4 +1,4 @@
--- Document 02, request 5: more places than the old limit let in, and the carrying over of old states, worked out by hand.
+-- Request 5: more places than the old limit let in (clause 2.1), and old states carried over (clauses 11.4 and 11.5), worked out by hand.
 use mathlib.Core.List.{List, [], _∷_, _++_}
 use Prim.Native.Nat.{ℕ, suc, _-_}
 use lib.ListN.{replicate}
@@ -83,9 +83,10 @@ basinLog = 3 ∷ 3 ∷ joined (λ cycle. cycle) (replicate 18 (0 ∷ 1 ∷ 2 ∷
 unfoldable pub basinLast : Standing
 basinLast = standing 189 (16 ∷ 18 ∷ 18 ∷ 16 ∷ 232 ∷ []) (11 ∷ 1 ∷ 11 ∷ 0 ∷ 18 ∷ [])
 
+-- clauses 11.4 and 16.16
 unfoldable pub carryRows : List Row
 carryRows =
-    -- T after the first two slots of case 3, where place 1 is blocked and has saved more than its burst
+    -- clause 16.16: T after the first two slots of clause 16.3, where place 1 is blocked and has saved more than its burst
     record { query = carrying (oldT 4 2 2 2 1 6 3); written = started-as accepted (stateOf tableT 2 (account 2 1 ∷ account 6 3 ∷ [])) }
     -- at the last slot number, and with the largest backlog
     ∷ record {
@@ -110,10 +111,10 @@ carryRows =
     }
     ∷ []
 
--- the old state under the old limit, and what it is carried over to under the new one
+-- clause 11.5: the old state under the old limit, and what it is carried over to under the new one
 unfoldable pub sideRows : List Row
 sideRows =
-    -- the other slots of case 3
+    -- the other slots of clause 16.3
     record {
       query = besideOld (oldT 4 2 2 2 1 6 3) 7;
       written = ran-both (1 ∷ 0 ∷ 1 ∷ 255 ∷ 255 ∷ 1 ∷ 255 ∷ []) (standing 9 (5 ∷ 1 ∷ []) (0 ∷ 0 ∷ []))
@@ -123,7 +124,7 @@ sideRows =
     ∷ record { query = besideOld basinBefore 182; written = ran-both basinLog basinLast basinLog basinLast }
     ∷ []
 
--- an old state that breaks a rule: 23, and the state handed back is all 0
+-- clauses 1.6 and 11.4: an old state that is not sound is 23, and the state handed back is all 0
 abbrev pub unsound : OldState → Row
 unsound o = record { query = carrying o; written = started-as (refused (refusal 23)) allZeroState }
 

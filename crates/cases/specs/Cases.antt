@@ -1,4 +1,4 @@
--- Every row gets the reply that is written for it: one statement about all rows, document 01's P cases first.
+-- Every row gets the reply that is written for it: one statement about all rows, those of clauses 14.4 and 16.1 to 16.17 among them.
 use mathlib.Core.Path.{_≡_}
 use mathlib.Core.List.{List, _++_, map}
 use Rattle.cases.specs.Rows.{Row, reply}

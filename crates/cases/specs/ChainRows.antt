@@ -1,5 +1,5 @@
--- Document 02, request 4: the chain figure in the example basin, a pump, two probes, a handset and a service log, worked out by hand. Their
--- finish figures for one transfer are 5, 13, 15, 12 and 20. And a run of calls in which the links of a chain are posted in turn.
+-- Chains (clauses 9.1 to 9.4) in README's basin, a pump, two probes, a handset and a service log, worked out by hand. Their finish figures
+-- for one transfer are 5, 13, 15, 12 and 20. And a run of calls in which the links of a chain are posted in turn.
 use mathlib.Core.Path.{_≡_}
 use mathlib.Core.List.{List, [], _∷_, _++_}
 use Prim.Native.Nat.{ℕ, _-_}
@@ -24,6 +24,10 @@ use Rattle.cases.specs.RequestRows.{tableBasin}
 abbrev pub basin : State
 basin = after tableBasin 0 []
 
+-- D=10 and four places
+abbrev pub fourHeads : State
+fourHeads = after (table 10 4 (row 1 10 1 10 ∷ row 2 20 1 7 ∷ row 3 30 1 8 ∷ row 4 40 1 18 ∷ [])) 0 []
+
 -- the basin with a credit above its burst
 abbrev pub basinUnsound : State
 basinUnsound = stateOf tableBasin 0 (account 41 0 ∷ account 20 0 ∷ account 20 0 ∷ account 60 0 ∷ account 160 0 ∷ [])
@@ -32,6 +36,7 @@ basinUnsound = stateOf tableBasin 0 (account 41 0 ∷ account 20 0 ∷ account 2
 unfoldable pub allInOne : List ℕ
 allInOne = nobody ∷ placesFrom (λ p. p) 0 (maxPlaces - 1)
 
+-- clause 9.2
 unfoldable pub chainRows : List Row
 chainRows =
     -- a chain of one is the finish figure itself, with a name for each place or none given
@@ -56,8 +61,16 @@ chainRows =
     -- the figure is the table's: backlogs and credits make no difference, nor does a need that 7 would refuse. In T it is 4 + 7
     ∷ record { query = chaining (after tableBasin 0 (post 0 9 ∷ post 4 2 ∷ slot ∷ slot ∷ slot ∷ [])) 4 allInOne; written = told-chain (chains.figured 65) }
     ∷ record { query = chaining (stateOf tableTShort 0 []) 1 (nobody ∷ 0 ∷ []); written = told-chain (chains.figured 11) }
+    -- clause 16.15
+    ∷ record { query = chaining fourHeads 0 (nobody ∷ nobody ∷ 1 ∷ 2 ∷ []); written = told-chain (chains.figured 10) }
+    ∷ record { query = chaining fourHeads 1 (nobody ∷ nobody ∷ 1 ∷ 2 ∷ []); written = told-chain (chains.figured 7) }
+    ∷ record { query = chaining fourHeads 2 (nobody ∷ nobody ∷ 1 ∷ 2 ∷ []); written = told-chain (chains.figured 15) }
+    ∷ record { query = chaining fourHeads 3 (nobody ∷ nobody ∷ 1 ∷ 2 ∷ []); written = told-chain (chains.figured 33) }
+    ∷ record { query = chaining fourHeads 3 (nobody ∷ 1 ∷ 0 ∷ 2 ∷ []); written = told-chain (chains.refused (refusalAt 16 1)) }
+    ∷ record { query = chaining fourHeads 3 (nobody ∷ 4 ∷ nobody ∷ nobody ∷ []); written = told-chain (chains.refused (refusal 11)) }
     ∷ []
 
+-- clause 9.3: refusal 16
 unfoldable pub circleRows : List Row
 circleRows =
     -- a place that follows itself, asked for or not
@@ -81,6 +94,7 @@ circleRows =
     ∷ record { query = chaining basin 0 (4 ∷ nobody ∷ 1 ∷ 2 ∷ 3 ∷ []); written = told-chain (chains.figured 65) }
     ∷ []
 
+-- clauses 9.1, 9.3 and 13.12: refusal 11, and names that are not read
 unfoldable pub absentRows : List Row
 absentRows =
     -- place 5 is not there: asked for, followed on the asked chain, followed off it; so is place 254, and 255 is nobody
@@ -133,7 +147,7 @@ displayRows =
     ∷ record { query = chaining (after tableDisplay 0 []) 3 displayNames; written = told-chain (chains.figured 34) }
     ∷ []
 
--- What the promise of a chain asks of its calls is met by these with 34 slots, and so is what it concludes.
+-- Clause 9.4: what it asks of the calls is met by these with 34 slots, and so is what it promises.
 pub record DisplayRun : Type 0 where
   pub started : Accepted maxPlaces tableDisplay 0
   pub figure : chains.chain maxPlaces (after tableDisplay 0 []) 3 displayNames ≡ chains.figured 34

@@ -1,4 +1,5 @@
--- Edges of the checks and of the rule, worked out by hand.
+-- Edges of the limits (clause 2.1), of the order of checks (clauses 13.1, 13.3, 13.7 and 13.8), of states (clause 11.1), of the rule
+-- (clauses 5.2 to 5.6) and of replay (clause 10.8), worked out by hand.
 use mathlib.Core.List.{List, [], _∷_, _++_}
 use Prim.Native.Nat.{suc, _-_}
 use lib.ListN.{replicate}
@@ -34,7 +35,7 @@ tableLargest = table maxPlaces maxPlaces (replicate maxPlaces (row 1 16777216 1 
 unfoldable pub tableBlocked : Table
 tableBlocked = table 4 2 (row 1 16 1 4 ∷ row 3 4 1 8 ∷ [])
 
--- numbers outside their limits, and the neighbours that are just inside
+-- clause 2.1: numbers outside their limits, and the neighbours that are just inside
 unfoldable pub limitRows : List Row
 limitRows =
     record { query = admission (table 4 0 []); written = found (fault (refusal 2)) }
@@ -52,12 +53,12 @@ limitRows =
     ∷ record { query = admission (tableSecond (row 1 4 1 1073741824)); written = found faultless }
     -- rates that sum to exactly D, with the largest bursts at the largest N
     ∷ record { query = admission tableLargest; written = found faultless }
-    -- first slot number two to the power 62 starts, and its first slot is refused 22
+    -- clause 4.1: first slot number 2^62 starts, and its first slot is refused 22
     ∷ record {
       query = calling tableT 4611686018427387904 (slot ∷ []);
       written = told accepted (refused (refusal 22) ∷ []) (standing 4611686018427387904 (8 ∷ 4 ∷ []) (0 ∷ 0 ∷ []));
     }
-    -- one more is refused 12, with a state whose every field is 0: each call on it is refused 23
+    -- one more is refused 12, with the state of clause 1.6: each call on it is refused 23
     ∷ record {
       query = calling tableT 4611686018427387905 (slot ∷ post 0 1 ∷ []);
       written = told (refused (refusal 12)) (refused (refusal 23) ∷ refused (refusal 23) ∷ []) (standing 0 (0 ∷ 0 ∷ []) (0 ∷ 0 ∷ []));
@@ -81,7 +82,7 @@ wideRows =
     ∷ record { query = starting (table 4 4294967298 []) 0; written = started-as (refused (refusal 2)) allZeroState }
     ∷ []
 
--- which of two faults is named
+-- clauses 13.1, 13.3, 13.7 and 13.8: which of two faults is named
 unfoldable pub orderRows : List Row
 orderRows =
     -- N = 2 with one field past place 1 that is not 0: 2, ahead of the 3 at place 0
@@ -118,7 +119,7 @@ orderRows =
     }
     ∷ []
 
--- states that no start made
+-- clause 11.1: states that no start made
 unfoldable pub stateRows : List Row
 stateRows =
     -- a field past place 1 that is not 0: of the table, a credit, a backlog
@@ -166,7 +167,7 @@ stateRows =
     }
     ∷ []
 
--- the rule where it is easy to get wrong
+-- clauses 5.2 to 5.6, where they are easy to get wrong (clause 10.9)
 unfoldable pub ruleRows : List Row
 ruleRows =
     -- N=1 and D=1
@@ -197,7 +198,7 @@ ruleRows =
     }
     ∷ []
 
--- calls and answers as lent numbers
+-- clause 10.8: calls and answers as lent numbers
 unfoldable pub replayRows : List Row
 replayRows =
     -- two posts, a post to an absent place and two slots: five calls, room for four answers, and one number left over in each list

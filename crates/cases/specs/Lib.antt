@@ -1,4 +1,4 @@
--- Rows that show the definitions themselves: document 01's P cases, document 02's examples, and edges of the checks, of the rule, of the bytes, of logs and of slotlist.
+-- Rows that show the definitions themselves: the worked cases of section 16, and edges of most other sections.
 pub mod Rows
 pub mod BenchRows
 pub mod EdgeRows

@@ -1,5 +1,5 @@
--- Document 01's example of slotlist, and edges of the program worked out by hand. Texts are bytes in ASCII; the comment over a row has its
--- lines behind the header.
+-- What slotlist prints: the example of clause 14.4, and edges of clauses 13.15 and 14.1 to 14.3, worked out by hand. Texts are bytes in
+-- ASCII; the comment over a row has its lines behind the header.
 use mathlib.Core.List.{List, [], _∷_, _++_}
 use Prim.Native.Nat.{ℕ}
 use Rattle.cases.specs.Rows.{Row, listingOf, bytes}
@@ -14,7 +14,7 @@ listed input text = record { query = listingOf input; written = bytes (headerTex
 
 unfoldable pub listingRows : List Row
 listingRows =
-    -- document 01's example: 0 0 5 5, 1 0 2 6, 2 1 3 3, end 3
+    -- clause 14.4
     listed
     (10 ∷ 4 ∷ 2 ∷ 1 ∷ 8 ∷ 1 ∷ 4 ∷ 1 ∷ 4 ∷ 1 ∷ 7 ∷ 3 ∷ 3 ∷ 0 ∷ 0 ∷ 0 ∷ 0 ∷ [])
     (48 ∷ 32 ∷ 48 ∷ 32 ∷ 53 ∷ 32 ∷ 53 ∷ 10 ∷ 49 ∷ 32 ∷ 48 ∷ 32 ∷ 50 ∷ 32 ∷ 54 ∷ 10 ∷ 50 ∷ 32 ∷ 49 ∷ 32 ∷ 51 ∷ 32 ∷ 51 ∷ 10 ∷ 101 ∷ 110 ∷ 100 ∷ 32 ∷ 51 ∷ 10 ∷ [])

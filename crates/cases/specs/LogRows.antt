@@ -1,4 +1,4 @@
--- Edges of the run over a log, of the lead and of the figures call, and of the checks that they share, worked out by hand.
+-- Edges of runs, leads and figures (clauses 6.1, 6.3, 7.4 and 13.9 to 13.11), and of the checks that they share, worked out by hand.
 use mathlib.Core.List.{List, [], _∷_, _++_}
 use Prim.Native.Nat.{ℕ, _-_}
 use lib.IntN.{pos, negsuc}
@@ -34,7 +34,7 @@ startThree = after (table 10 3 (row 1 10 1 10 ∷ row 2 25 1 7 ∷ row 4 10 1 8 
 unfoldable pub startLast : State
 startLast = after (table 100 maxPlaces (replicate maxPlaces (row 1 100 1 10000))) 0 (post (maxPlaces - 1) 1 ∷ [])
 
--- the checks of a place and of a number of bytes, each asked by itself
+-- clauses 12.11 and 12.13: the checks of a place and of a number of bytes, each asked by itself
 unfoldable pub checkRows : List Row
 checkRows =
     -- 11: T has places 0 and 1; neither 2 nor the largest number of 64 bits is one of them
@@ -49,9 +49,10 @@ checkRows =
     ∷ record { query = inputChecks 18446744073709551615; written = found (fault (refusal 13)) }
     ∷ []
 
+-- clauses 6.1 and 13.9
 unfoldable pub runRows : List Row
 runRows =
-    -- no byte means no slot, also where the slot number stands at its limit; one byte is then refused 22, and is left as it was
+    -- no byte and no slot, also at slot number 2^62; one byte is then refused 22, and is left as it was
     record { query = running (startT 4611686018427387904) []; written = ran accepted [] (standing 4611686018427387904 (8 ∷ 4 ∷ []) (0 ∷ 0 ∷ [])) }
     ∷ record {
       query = running (startT 4611686018427387904) (90 ∷ []);
@@ -66,7 +67,7 @@ runRows =
       query = running (startT 4611686018427387902) (90 ∷ 91 ∷ 92 ∷ []);
       written = ran (refused (refusal 22)) (90 ∷ 91 ∷ 92 ∷ []) (standing 4611686018427387902 (8 ∷ 4 ∷ []) (0 ∷ 0 ∷ []));
     }
-    -- one slot; then three more of case 3, from the state that the first handed back
+    -- one slot; then three more of clause 16.3, from the state that the first handed back
     ∷ record { query = running (after tableT 0 threeEach) (90 ∷ []); written = ran accepted (0 ∷ []) (standing 1 (5 ∷ 5 ∷ []) (2 ∷ 3 ∷ [])) }
     ∷ record {
       query = running (stateOf tableT 1 (account 5 2 ∷ account 5 3 ∷ [])) (90 ∷ 91 ∷ 92 ∷ []);
@@ -82,7 +83,7 @@ runRows =
       query = running (stateOf tableTShort 0 (account 8 0 ∷ account 4 1 ∷ [])) (90 ∷ []);
       written = ran accepted (1 ∷ []) (standing 1 (8 ∷ 1 ∷ []) (0 ∷ 0 ∷ []));
     }
-    -- a state that breaks a rule is refused 23, also for no byte, and ahead of 13 and of 22; 13 is ahead of 22
+    -- a state that is not sound is refused 23, also for no byte, and ahead of 13 and of 22; 13 is ahead of 22
     ∷ record { query = running (unsoundT 0) []; written = ran (refused (refusal 23)) [] (standing 0 (9 ∷ 3 ∷ []) (0 ∷ 0 ∷ [])) }
     ∷ record { query = running (unsoundT 0) (90 ∷ 91 ∷ []); written = ran (refused (refusal 23)) (90 ∷ 91 ∷ []) (standing 0 (9 ∷ 3 ∷ []) (0 ∷ 0 ∷ [])) }
     ∷ record { query = runChecks (unsoundT 4611686018427387904) 65537; written = found (fault (refusal 23)) }
@@ -93,6 +94,7 @@ runRows =
     ∷ record { query = runChecks (startT 4611686018427322369) 65536; written = found (fault (refusal 22)) }
     ∷ []
 
+-- clauses 6.3 and 13.10
 unfoldable pub leadRows : List Row
 leadRows =
     -- over no byte the lead is 0; idle bytes and bytes that name no place count for nobody
@@ -117,6 +119,7 @@ leadRows =
     ∷ record { query = leadChecks (startT 0) 1 65536; written = found faultless }
     ∷ []
 
+-- clauses 7.4 and 13.11
 unfoldable pub figureRows : List Row
 figureRows =
     -- T: place 0 waits for nobody; place 1 for a burst of 8 at the 3 of 4 that are left

@@ -1,4 +1,4 @@
--- Document 02, request 6: needs that just fit their burst and needs that do not, worked out by hand.
+-- Needs that just fit their burst and needs that do not (clauses 2.3 and 12.17), worked out by hand.
 use mathlib.Core.List.{List, [], _∷_, _++_}
 use Prim.Native.Nat.{ℕ, suc, _-_, _*_}
 use lib.IntN.{pos}
@@ -41,6 +41,7 @@ unfoldable pub tableBasinWith : (pump probe handset log : ℕ) → Table
 tableBasinWith pump probe handset log =
     table 20 5 (row 4 pump 2 10 ∷ row 2 20 1 15 ∷ row 2 probe 1 15 ∷ row 4 handset 3 25 ∷ row 8 log 8 50 ∷ [])
 
+-- clauses 2.3 and 12.17
 unfoldable pub needRows : List Row
 needRows =
     -- j × D equal to b, and one above it: at the first place, at the last, and at the last of as many as there can be
@@ -56,6 +57,10 @@ needRows =
     -- with D = 1 a burst is a number of transfers
     ∷ record { query = admission (single 1 1 255 255 255); written = found faultless }
     ∷ record { query = admission (single 1 1 254 255 255); written = found (fault (refusalAt 17 0)) }
+    -- clause 16.17
+    ∷ record { query = admission (tableTwo (row 1 8 2 8) (row 1 4 1 7)); written = found faultless }
+    ∷ record { query = admission (tableTwo (row 1 8 3 12) (row 1 4 1 7)); written = found (fault (refusalAt 17 0)) }
+    ∷ record { query = queryingFigures (stateOf (tableTwo (row 1 8 2 8) (row 1 4 1 7)) 0 []) 0 3; written = told-figures (queries.figured 0 12) }
     -- the needs of README's basin just fit: with one less for its burst the pump, the handset or the log gets 17
     ∷ record { query = admission (tableBasinWith 40 20 60 160); written = found faultless }
     ∷ record { query = admission (tableBasinWith 39 20 60 160); written = found (fault (refusalAt 17 0)) }
@@ -70,7 +75,7 @@ needRows =
     ∷ record { query = formerAdmission (tableTwo (pair 7) (pair 4)); written = found faultless }
     ∷ []
 
--- which of two faults is named
+-- clauses 13.1 and 13.3 to 13.5: which of two faults is named
 unfoldable pub needOrderRows : List Row
 needOrderRows =
     -- 17 at place 0 is ahead of 3, 4 and 5 at place 1, of 6, and of 7 at place 1 and at place 0
@@ -111,7 +116,7 @@ needOrderRows =
     ∷ unwritten (tableTwo (row 1 4 1 3) (pair 7)) (refusalAt 17 1)
     ∷ []
 
--- as bytes: n, b, j and L of a place, and behind them 17
+-- clauses 13.2 and 13.6: n, b, j and L of a place, and behind them 17
 unfoldable pub needBytesRows : List Row
 needBytesRows =
     record { query = reading (4 ∷ 1 ∷ 1 ∷ 8 ∷ 2 ∷ 8 ∷ []); written = read-as accepted (single 4 1 8 2 8) }
@@ -147,7 +152,7 @@ tableThrice = tableTwo (row 1 8 1 4) (row 1 4 3 15)
 unfoldable pub thrice : (backlog : ℕ) → State
 thrice q = stateOf tableThrice 0 (account 8 0 ∷ account 4 q ∷ [])
 
--- every call serves it; its table alone is refused
+-- clauses 2.5, 7.4 and 11.5: every call serves it; its table alone is refused
 unfoldable pub needServedRows : List Row
 needServedRows =
     record { query = querying (thrice 0) (post 1 3); written = answered accepted (standing 0 (8 ∷ 4 ∷ []) (0 ∷ 3 ∷ [])) }

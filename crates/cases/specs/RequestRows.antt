@@ -1,4 +1,5 @@
--- Document 02: the worked examples of the change requests, and edges of each, worked out by hand.
+-- The finish figure of request 1 (clauses 7.3, 7.5 and 16.11) and the orders of request 2 (clauses 8.1 to 8.3, 13.5, 13.6 and 16.14),
+-- with edges of each, worked out by hand.
 use mathlib.Core.List.{List, [], _∷_, _++_}
 use Prim.Native.Nat.{ℕ, suc, _-_}
 use lib.ListN.{length, replicate}
@@ -12,7 +13,7 @@ use Rattle.table_bytes.specs.Writing as writing
 use Rattle.cases.specs.Rows.{row, table, allZero, Row, reading, admission, formerAdmission, queryingFigures, bothFinishes, ordering, orderingBytes, after, read-as, written-as, found, told-figures, finished, ordered-as, rowsOf}
 use Rattle.cases.specs.BenchRows.{tableT, tableTShort, tableFive}
 
--- request 1: case 11's table with a rate of 3, this burst and a need of two transfers at place 1
+-- clause 16.11's table with a rate of 3, this burst and a need of two transfers at place 1
 unfoldable pub tableThirds : (burst within : ℕ) → Table
 tableThirds burst within = table 5 2 (row 1 6 1 5 ∷ row 3 burst 2 within ∷ [])
 
@@ -28,9 +29,10 @@ tableTens = table 10 3 (row 1 10 1 10 ∷ row 2 26 1 7 ∷ row 4 10 1 8 ∷ [])
 unfoldable pub tableHigh : (burst : ℕ) → Table
 tableHigh burst = table 65535 2 (row 1 16777216 1 65535 ∷ row 65534 burst 255 512 ∷ [])
 
+-- clauses 7.3 and 7.5
 unfoldable pub finishRows : List Row
 finishRows =
-    -- the request's basin: the probe at place 1 asks for one transfer within 4 slots, and 4 is its figure; it was turned away
+    -- clause 16.11: with L=4, its figure, it passes, and was turned away before request 1; with L=3 it does not
     record { query = admission (tableFive 4); written = found faultless }
     ∷ record { query = formerAdmission (tableFive 4); written = found (fault (refusalAt 7 1)) }
     ∷ record { query = admission (tableFive 3); written = found (fault (refusalAt 7 1)) }
@@ -67,7 +69,7 @@ finishRows =
     ∷ record { query = formerAdmission tableTShort; written = found (fault (refusalAt 7 1)) }
     ∷ []
 
--- request 2: three alike but for their L, of which the figures at places 0, 1 and 2 are 4, 6 and 8
+-- clause 16.14: three alike but for their L, of which the figures at places 0, 1 and 2 are 4, 6 and 8
 unfoldable pub tableThree : (first second third : ℕ) → Table
 tableThree first second third = table 4 3 (row 1 4 1 first ∷ row 1 4 1 second ∷ row 1 4 1 third ∷ [])
 
@@ -100,6 +102,7 @@ greedy within = row (65535 - (maxPlaces - 1)) 16777216 255 within
 unfoldable pub tableWhole : List Requestor → Table
 tableWhole rows = table 65535 maxPlaces rows
 
+-- clauses 8.1, 8.2 and 13.5
 unfoldable pub searchRows : List Row
 searchRows =
     -- T is in order already. The other way round it is put in order: at place 1 the pump would wait 4/3 and take 4, which is above its 4
@@ -113,13 +116,13 @@ searchRows =
     -- every order passes, and the last-listed goes lowest: the list stays as it is, either way round
     ∷ record { query = ordering (table 4 2 (row 1 8 1 100 ∷ row 1 4 1 50 ∷ [])); written = ordered-as accepted (table 4 2 (row 1 8 1 100 ∷ row 1 4 1 50 ∷ [])) }
     ∷ record { query = ordering (table 4 2 (row 1 4 1 50 ∷ row 1 8 1 100 ∷ [])); written = ordered-as accepted (table 4 2 (row 1 4 1 50 ∷ row 1 8 1 100 ∷ [])) }
-    -- a wrong order for which two pass: the third can stand at place 0 alone, and of the others the second, listed last, goes lowest
+    -- clause 16.14: two orders pass; the third can stand at place 0 alone, and of the others the second, listed last, goes lowest
     ∷ record {
       query = ordering (table 8 3 (row 1 8 1 100 ∷ row 2 16 1 100 ∷ row 1 8 1 8 ∷ []));
       written = ordered-as accepted (table 8 3 (row 1 8 1 8 ∷ row 1 8 1 100 ∷ row 2 16 1 100 ∷ []));
     }
-    -- at place 2 the third has the figure 10, above its 6; the second has 10 and the first 8, which both can do with, and the second is listed
-    -- later. At place 1 the third has 7, above its 6, and the first 6
+    -- at place 2 the third has the figure 10, above its 6; the second has 10 and the first 8, which both can do with, and the second is
+    -- listed later. At place 1 the third has 7, above its 6, and the first 6
     ∷ record {
       query = ordering (table 4 3 (row 1 8 1 8 ∷ row 1 4 1 10 ∷ row 1 4 1 6 ∷ []));
       written = ordered-as accepted (table 4 3 (row 1 4 1 6 ∷ row 1 8 1 8 ∷ row 1 4 1 10 ∷ []));
@@ -144,7 +147,7 @@ searchRows =
       query = ordering (table 8 4 (row 1 8 1 100 ∷ row 1 9 1 100 ∷ row 1 8 1 12 ∷ row 1 10 1 12 ∷ []));
       written = ordered-as accepted (table 8 4 (row 1 8 1 100 ∷ row 1 8 1 12 ∷ row 1 10 1 12 ∷ row 1 9 1 100 ∷ []));
     }
-    -- only one order of three passes, however they are listed
+    -- clause 16.14: only one order of three passes, however they are listed
     ∷ record { query = ordering (tableThree 4 6 8); written = ordered-as accepted (tableThree 4 6 8) }
     ∷ record { query = ordering (tableThree 4 8 6); written = ordered-as accepted (tableThree 4 6 8) }
     ∷ record { query = ordering (tableThree 6 4 8); written = ordered-as accepted (tableThree 4 6 8) }
@@ -198,6 +201,7 @@ searchRows =
 unfoldable pub bytesGuessed : (within : ℕ) → List ℕ
 bytesGuessed within = 4 ∷ 2 ∷ 1 ∷ 4 ∷ 1 ∷ within ∷ 1 ∷ 8 ∷ 1 ∷ 4 ∷ []
 
+-- clauses 8.3 and 13.6
 unfoldable pub searchBytesRows : List Row
 searchBytesRows =
     -- T's bytes, in order; the buffer's rest stays, and one byte fewer of room is 14

@@ -1,5 +1,5 @@
--- What a row asks, what it is told, and the one evaluator, which runs the definitions that the contracts cite, parts of them, and the
--- finish figure and admission as they were before request 1.
+-- What a row asks, what it is told, and the one evaluator. It states no clause: it runs the definitions that the contracts cite, parts of
+-- them, and the finish figure and admission as they were before request 1 (clause 7.5).
 use mathlib.Core.Bool.{Bool, true, _&&_}
 use mathlib.Core.List.{List, [], _∷_, _++_, map}
 use Prim.Native.Nat.{ℕ, zero, suc, _-_, _*_}
@@ -157,7 +157,7 @@ pub data Reply : Type 0 where
   figured : (B R wait finish : ℕ) → Reply
   finished : (finish former : ℕ) → Reply
   ordered-as : Answer → Table → Reply
-  -- the credit on entry, whether the place waits in every slot, R × D × g, and n × (R × L − B)
+  -- the credit on entry, whether the place waits in every slot, and both sides of clause 10.3
   floored : (credit : ℕ) (waits : Bool) (granted owed : ℕ) → Reply
 
 -- the state after calls from a start
@@ -168,7 +168,7 @@ after t first calls = stateAfter maxPlaces t first calls
 unfoldable pub standsAt : ℕ → State → Standing
 standsAt n s = standing (s .slot .0) (map credit (take n (s .accounts))) (map backlog (take n (s .accounts)))
 
--- place p has a transfer waiting directly before each slot
+-- place p waits in each slot
 unfoldable pub waitsThroughout : ℕ → State → List Call → Bool
 waitsThroughout p s [] = true
 waitsThroughout p s (post i count ∷ cs) = waitsThroughout p (called maxPlaces s (post i count) .state) cs
@@ -227,7 +227,7 @@ reply (floor t before inside p) =
     (rateLeft (t .denominator) p (requestorsOf t)) (burstsAbove p (requestorsOf t)) (slotsIn replies) (grantsTo p replies)
 reply (listingOf input) = bytes (listing maxPlaces input)
 
--- a query, and the reply that is written for it: in BenchRows what document 01 says, elsewhere what was worked out by hand
+-- a query, and the reply that is written for it: in BenchRows what section 16 says, elsewhere what was worked out by hand
 pub record Row : Type 0 where
   pub query : Query
   pub written : Reply

@@ -36,7 +36,7 @@ fn is_present(name: usize, n: usize) -> bool
     name < n
 }
 
-// Check 11 of the names: each place that is followed is one of the table's.
+// Clause 12.11 of the names: each place that is followed is one of the table's.
 fn check_names(words: &[u64], names: &[u8]) -> Verdict
     requires { ⌜ Checked maxPlaces (now words) ⌝ }
     ensures { λ v. ⌜ verdictOf v ≡ namesVerdict (tableIn (now (words .entry))) (now (names .entry)) ⌝ }
@@ -73,7 +73,7 @@ fn stays_clear(names: &[u8], n: usize, p: usize) -> bool
     true
 }
 
-// Check 16: the lowest place from which following leads back to it.
+// Clause 12.16: the lowest place from which following leads back to it.
 fn check_circles(words: &[u64], names: &[u8]) -> Verdict
     requires { ⌜ Checked maxPlaces (now words) ⌝ }
     ensures { λ v. ⌜ verdictOf v ≡ circlesVerdict (tableIn (now (words .entry))) (now (names .entry)) ⌝ }

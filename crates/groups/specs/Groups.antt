@@ -1,10 +1,6 @@
--- Document 01, "Table bytes": a number of at most 32 bits as one to five bytes. Each byte holds seven bits of it, the lowest seven first,
--- and its eighth bit, worth 128, is set in all but the last. One form only is taken, the shortest: a last byte that adds nothing, 00, is
--- there only for the number 0. A byte is a number below 256.
---
--- The reading taken: a fifth byte with its top bit set is no number whether or not bytes come after it, so 80 80 80 80 80 is
--- malformed and has not ended too soon. This crate knows no refusals: that Ended is 8 and Malformed 9 is said where a table's bytes
--- are read.
+-- Clause 3.1: a number of at most 32 bits as one to five bytes, each with seven bits of it and a top bit, worth 128. A byte is a number
+-- below 256. Which bytes are no number is told as in clause 3.2, but this crate knows no refusals: that Ended is 8 and Malformed 9 is said
+-- where a table's bytes are read.
 use mathlib.Core.List.{List, [], _∷_}
 use Prim.Native.Nat.{ℕ, zero, suc, _+_, _-_, _*_, _/_, _%_}
 use lib.Dec.{ltb, leb, eqb}
@@ -43,7 +39,7 @@ laterGroups zero bytes = Malformed
 laterGroups (suc left) [] = Ended
 laterGroups (suc left) (x ∷ bytes) = pick (ltb x 128) (lastGroup x) (combined x (laterGroups left bytes))
 
--- what stands at the start of the bytes: a number, with how many bytes it takes; or bytes that end too soon; or no number
+-- what stands at the start of the bytes (clause 3.1): a number, with how many bytes it takes; or bytes that end too soon; or no number
 unfoldable pub numberOf : List ℕ → Reading
 numberOf [] = Ended
 numberOf (x ∷ bytes) = pick (ltb x 128) (Number x 1) (combined x (laterGroups maxLater bytes))
@@ -53,7 +49,7 @@ unfoldable pub groupsOf : (left : ℕ) → ℕ → List ℕ
 groupsOf zero x = x ∷ []
 groupsOf (suc left) x = pick (ltb x 128) (x ∷ []) ((x % 128 + 128) ∷ groupsOf left (x / 128))
 
--- the bytes of a number up to the largest
+-- the bytes of a number up to the largest (clause 3.1)
 unfoldable pub numberBytes : ℕ → List ℕ
 numberBytes x = groupsOf maxLater x
 
@@ -62,7 +58,7 @@ pub record Filled : Type 0 where
   pub wrote : ℕ
   pub buffer : List ℕ
 
--- a number's bytes from the buffer's start on; where they do not fit, none, which the paper leaves free
+-- a number's bytes from the buffer's start on; where they do not fit, none
 unfoldable pub numberWritten : ℕ → List ℕ → Filled
 numberWritten x old =
     pick (leb (length (numberBytes x)) (length old))

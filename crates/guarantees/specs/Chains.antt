@@ -1,9 +1,8 @@
--- Document 02, request 4: what a chain figure promises. Of a list of calls it is asked that the links of a chain post in turn: each one
--- transfer, ahead of the first accepted slot after its forerunner's grant, and with no backlog then. The last link's grant is then among as
--- many accepted slots as the figure says, if the list has so many. The first link posts ahead of the list's first accepted slot, so that
--- the slots of the list are those after the first post. All else is free: other posts, their places and counts, and refused calls, also
--- between a grant and the post that answers it. That a link is granted is concluded and not asked. The paper asks of each link a credit
--- of at least D when it posts; the finish figure holds from any credit, and so does what follows here.
+-- Clause 9.4, what a chain figure promises, and how large it is at most. Of a list of calls it is asked that the links of a chain post in
+-- turn: each one transfer, ahead of the first accepted slot after its forerunner's grant, and with no backlog then. The last link's grant
+-- is then among as many accepted slots as the figure says, if the list has so many. The first link posts ahead of the list's first accepted
+-- slot, so that the slots of the list are those after the first post. All else is free: other posts, their places and counts, and refused
+-- calls, also between a grant and the post that answers it. That a link is granted is concluded and not asked; no credit is asked for.
 use mathlib.Core.Path.{_≡_}
 use mathlib.Core.Bool.{Bool, true, false}
 use mathlib.Core.List.{List, [], _∷_, _++_}
@@ -67,16 +66,16 @@ abbrev pub uponGrant : Option Reached → (Reached → Type 0) → Type 0
 uponGrant none next = Unit {0}
 uponGrant (some g) next = next g
 
--- Asked of the calls from s on: if a further slot is accepted, the first link's post stands ahead of it; and where that link is granted, the
--- same is asked of the other links from there on.
+-- Clause 9.4, asked of the calls from s on: if a further slot is accepted, the first link's post stands ahead of it; and where that link
+-- is granted, the same is asked of the other links from there on.
 abbrev pub PostInTurn : ℕ → (links : List ℕ) → State → List Call → Type 0
 PostInTurn limit [] s calls = Unit {0}
 PostInTurn limit (p ∷ links) s calls = 0 < slotsIn (answersFrom limit s calls)
     → (x : PostedNext limit s calls p)
     × uponGrant (firstGrant limit p (postedState x) (x .behind)) (λ g. PostInTurn limit links (g .state) (g .onward))
 
--- Concluded: each link is posted and then granted, one after the other, and the last link's grant is among the next `slots` accepted slots.
--- No other post could be meant than the one that was asked for: it leaves a backlog, so that none behind it has no backlog.
+-- Clause 9.4, concluded: each link is posted and then granted, one after the other, and the last link's grant is among the next `slots`
+-- accepted slots. No other post could be meant than the one that was asked for: it leaves a backlog, so that none behind it has no backlog.
 abbrev pub GrantedInTurn : ℕ → (links : List ℕ) → State → List Call → (slots : ℕ) → Type 0
 GrantedInTurn limit [] s calls slots = Unit {0}
 GrantedInTurn limit (p ∷ links) s calls slots =
@@ -86,7 +85,7 @@ GrantedInTurn limit (p ∷ links) s calls slots =
     × (g .slots ≤ slots)
     × GrantedInTurn limit links (g .state) (g .onward) (slots - g .slots)
 
--- from any sound state, after any calls; the figure may have been asked for at any time from there on
+-- clause 9.4 from any sound state, after any calls; the figure may have been asked for at any time from there on
 abbrev pub Chain-from-sound : Type 0
 Chain-from-sound = (limit : ℕ) (s : State) → Shaped limit s → sound limit s ≡ true
     → (asked : List Call) (p : ℕ) (names : List ℕ) (figure : ℕ) → chain limit (Runs.end (called limit) s asked) p names ≡ figured figure
@@ -94,7 +93,7 @@ Chain-from-sound = (limit : ℕ) (s : State) → Shaped limit s → sound limit 
     → figure ≤ slotsIn (answersFrom limit (Runs.end (called limit) s before) inside)
     → GrantedInTurn limit (chainOf (s .table) names p) (Runs.end (called limit) s before) inside figure
 
--- from an accepted start, after any calls; the figure may have been asked for at any time
+-- clause 9.4 from an accepted start, after any calls; the figure may have been asked for at any time
 abbrev pub Chain-from-start : Type 0
 Chain-from-start = (limit : ℕ) (t : Table) (first : ℕ) → Accepted limit t first
     → (asked : List Call) (p : ℕ) (names : List ℕ) (figure : ℕ) → chain limit (stateAfter limit t first asked) p names ≡ figured figure
@@ -102,7 +101,8 @@ Chain-from-start = (limit : ℕ) (t : Table) (first : ℕ) → Accepted limit t 
     → figure ≤ slotsIn (answersFrom limit (stateAfter limit t first before) inside)
     → GrantedInTurn limit (chainOf t names p) (stateAfter limit t first before) inside figure
 
--- a chain has at most N links: its figure is at most N of the largest finish figures, which for every room up to the largest N fits 64 bits
+-- of clause 9.2: a chain has at most N links, so that its figure is at most N of the largest finish figures. For every room up to the
+-- largest N that fits 64 bits
 abbrev pub Chain-figure-at-most : Type 0
 Chain-figure-at-most = (limit : ℕ) (s : State) → Shaped limit s → (p : ℕ) (names : List ℕ) (figure : ℕ) → chain limit s p names ≡ figured figure
     → figure ≤ s .table .count * mostFinish limit

@@ -1,4 +1,4 @@
--- Nothing is lost: at any time after a start, what was accepted for a place is what was granted to it and what still waits there.
+-- Clause 5.10, nothing is lost: at any time after a start, what was accepted for a place is what was granted to it and what waits there.
 use mathlib.Core.Path.{_≡_}
 use mathlib.Core.List.{List, [], _∷_}
 use Prim.Native.Nat.{ℕ, _+_}
@@ -18,12 +18,13 @@ arrivals p (post i count) (granted stamp q) = 0
 arrivals p (post i count) (idle stamp) = 0
 arrivals p (post i count) (refused r) = 0
 
--- the transfers accepted in posts to place p, along a list of calls and their answers
+-- clause 5.10's transfers accepted at place p, along a list of calls and their answers
 unfoldable pub arrivalsTo : ℕ → List Call → List Answer → ℕ
 arrivalsTo p [] answered = 0
 arrivalsTo p (c ∷ cs) [] = 0
 arrivalsTo p (c ∷ cs) (a ∷ answered) = arrivals p c a + arrivalsTo p cs answered
 
+-- clause 5.10
 abbrev pub Conservation : Type 0
 Conservation = (limit : ℕ) (t : Table) (first : ℕ) → Accepted limit t first → (calls : List Call) (p : ℕ)
     → arrivalsTo p calls (answersFrom limit (startState limit t first) calls)

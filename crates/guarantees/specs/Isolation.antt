@@ -1,5 +1,5 @@
--- What is posted to a place makes no difference to the places above it. Two lists of calls from one start that agree, between slot and
--- slot, in what they post to the first places show these places the same after every slot.
+-- Clause 5.9: what is posted to a place makes no difference to the places above it. Two lists of calls from one start that agree, between
+-- slot and slot, in what they post to the first places show these places the same after every slot.
 use mathlib.Core.Path.{_≡_}
 use mathlib.Core.Bool.{Bool, true, false}
 use mathlib.Core.List.{List, [], _∷_}
@@ -16,7 +16,8 @@ use Rattle.terms.specs.Answers.{Answer, accepted, granted, idle, refused}
 use Rattle.rule.specs.Calls.{Call, post, slot, called}
 use Rattle.guarantees.specs.Counts.{Accepted, startState}
 
--- a post by itself: it leaves every account but that of its own place, above it or below. What it does to later grants is said further down, of whole lists of calls.
+-- Clause 5.1, a post by itself: it leaves every account but that of its own place, above it or below. What it does to later grants is
+-- said further down, of whole lists of calls.
 abbrev pub Post-apart : Type 0
 Post-apart = (limit : ℕ) (s : State) (p count i : ℕ) → (i ≡ p → ⊥)
     → accountAt i (called limit s (post p count) .state .accounts) ≡ accountAt i (s .accounts)
@@ -30,7 +31,7 @@ unfoldable pub concerns : ℕ → Call → Bool
 concerns i (post p count) = eqb p i
 concerns i slot = true
 
--- the slots, and the posts to place i, refused ones included
+-- the slots, and the posts to place i, refused ones included: what lists agree in (clause 5.9)
 unfoldable pub concerning : ℕ → List Call → List Call
 concerning i [] = []
 concerning i (c ∷ cs) = keep (concerns i c) c (concerning i cs)
@@ -58,13 +59,13 @@ unfoldable pub shows : ℕ → Call → Runs.Result State Answer → List Shown 
 shows m slot r rest = record { accounts = take m (r .state .accounts); answer = view m (r .answer) } ∷ rest
 shows m (post p count) r rest = rest
 
--- after each slot of a list of calls
+-- after each slot of a list of calls (clause 5.9)
 unfoldable pub shown : (State → Call → Runs.Result State Answer) → ℕ → State → List Call → List Shown
 shown step m s [] = []
 shown step m s (c ∷ cs) = shows m c (step s c) (shown step m (step s c .state) cs)
 
--- Places 0 to k are the first suc k. Each of them is posted the same before each slot; between two slots the posts to different places
--- may come in any order, and those to other places are free.
+-- Clause 5.9. Places 0 to k are the first suc k. Each of them is posted the same before each slot; between two slots the posts to different
+-- places may come in any order, and those to other places are free.
 abbrev pub Isolation : Type 0
 Isolation = (limit : ℕ) (t : Table) (first : ℕ) → Accepted limit t first → (k : ℕ) (calls others : List Call)
     → ((i : ℕ) → i ≤ k → concerning i calls ≡ concerning i others)

@@ -1,6 +1,5 @@
--- Not in document 01: what its ceiling and its floor say of leads. Over the log of an accepted run the summed leads of the first k
--- places are at most their summed bursts; and for a place that waits throughout and enters with credit at least D, R × lead is at
--- least −(n × B).
+-- Clause 6.4: what the ceiling and the floor say of leads. Over the log of an accepted run the summed leads of the first k places are at
+-- most their summed bursts; and for a place that waits throughout and enters with credit at least D, R × lead is at least −(n × B).
 use mathlib.Core.Path.{_≡_}
 use mathlib.Core.List.{List}
 use Prim.Native.Nat.{ℕ, zero, suc, _*_, _≤_, _<_}
@@ -20,12 +19,12 @@ use Rattle.guarantees.specs.RunSlots.{slots}
 abbrev pub AtMost : ℤ → ℤ → Type 0
 AtMost a b = (x : ℕ) × (a +ℤ pos x ≡ b)
 
--- the summed leads of the first k places
+-- the summed leads of the first k places (clause 6.4)
 unfoldable pub summedLeads : Table → ℕ → List ℕ → ℤ
 summedLeads t zero log = pos 0
 summedLeads t (suc k) log = summedLeads t k log +ℤ leadIn t k log
 
--- R × lead ≥ −(n × B) for place p
+-- clause 6.4 for place p: R × lead ≥ −(n × B)
 abbrev pub WaitingLead : Table → ℕ → List ℕ → Type 0
 WaitingLead t p log = AtMost (negℤ (pos (n * B))) (pos R *ℤ leadIn t p log)
   where
@@ -44,6 +43,6 @@ pub record Leads (limit : ℕ) (s : State) (old : List ℕ) : Type 0 where
   pub waiting : (p : ℕ) → p < s .table .count → Waits p s (slots (length old)) → s .table .denominator ≤ credit (accountAt p (s .accounts))
       → WaitingLead (s .table) p (run limit s old .log)
 
--- `limit` leaves 255 to idle slots
+-- clause 6.4; `limit` leaves 255 to idle slots
 abbrev pub Leads-of-a-run : Type 0
 Leads-of-a-run = (limit : ℕ) (s : State) (old : List ℕ) → limit ≤ 255 → Shaped limit s → run limit s old .answer ≡ accepted → Leads limit s old

@@ -1,6 +1,6 @@
--- What is promised of every list of posts and slots and of every run, for general N. Counts has what is counted; each other file states
--- what one paragraph of document 01 or one request of document 02 promises or, where it says so, what follows from that, and its proof
--- is the file of the same name in proofs/.
+-- What is promised of every list of posts and slots and of every run, for general N (clause 10.1). Counts has what is counted; each other
+-- file states the clauses that it names or, where it says so, what follows from them, and its proof is the file of the same name in
+-- proofs/.
 pub mod Counts
 pub mod Demand3
 pub mod CreditSums

@@ -1,4 +1,4 @@
--- Document 02, request 6: a table is admitted only if each need fits its burst. Test 23 does not ask for that: a state whose table has a
+-- A table is admitted only if each need fits its burst (clause 2.3). Test 23 does not ask for that (clause 2.5): a state whose table has a
 -- larger need is served as if the need fitted.
 use mathlib.Core.Path.{_≡_}
 use mathlib.Core.Bool.{true}
@@ -21,16 +21,16 @@ use Rattle.guarantees.specs.Counts.{Accepted, answersFrom}
 
 -- ---- admission and test 23
 
--- the credit that a place saves up pays for its whole need
+-- clause 2.3: the credit that a place saves up pays for its whole need
 abbrev pub Needs-fit : Type 0
 Needs-fit = (limit : ℕ) (t : Table) (first : ℕ) → Accepted limit t first → (p : ℕ) → p < t .count
     → requestorAt p (requestorsOf t) .need .0 * t .denominator ≤ requestorAt p (requestorsOf t) .burst
 
--- a table that admission passes, passes test 23's checks of a table
+-- clause 2.5: a table that admission passes, passes test 23's checks of a table
 abbrev pub Admitted-passes-23 : Type 0
 Admitted-passes-23 = (limit : ℕ) (t : Table) → admissionVerdict limit t ≡ faultless → tableVerdict limit t ≡ faultless
 
--- and of one that passes these, admission finds 17, with the lowest place whose need does not fit, and then 7
+-- and of one that passes these, admission finds 17, with the lowest place whose need does not fit, and then 7 (clause 2.5)
 abbrev pub Rest-of-admission : Type 0
 Rest-of-admission = (limit : ℕ) (t : Table) → tableVerdict limit t ≡ faultless → admissionVerdict limit t ≡ then (needsFitVerdict t) (finishesVerdict t)
 
@@ -61,6 +61,6 @@ pub record SameService (limit p j : ℕ) (s : State) : Type 0 where
   pub figures : (q k : ℕ) → queries.figures limit (withNeed p j s) q k ≡ queries.figures limit s q k
   pub chain : (q : ℕ) (names : List ℕ) → chains.chain limit (withNeed p j s) q names ≡ chains.chain limit s q names
 
--- any j within the limits of check 5
+-- clause 2.5 with any j within the limits of check 5
 abbrev pub Any-need-is-served : Type 0
 Any-need-is-served = (limit : ℕ) (s : State) (p j : ℕ) → Shaped limit s → sound limit s ≡ true → p < s .table .count → 1 ≤ j → j ≤ maxNeed → SameService limit p j s

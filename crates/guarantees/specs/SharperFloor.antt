@@ -1,5 +1,5 @@
--- Not in document 01: what its floor and its need are proved through. Whatever credit c a place enters a stretch with, one of two
--- bounds on its grants holds; where c is at least D, both come to the floor.
+-- Clause 10.6, which the floor and the need are proved through: whatever credit c a place enters a stretch with, one of two bounds on its
+-- grants holds; where c is at least D, both come to the floor.
 use mathlib.Core.Path.{_≡_}
 use mathlib.Core.Bool.{true}
 use mathlib.Core.List.{List}
@@ -12,8 +12,7 @@ use Rattle.terms.specs.Figures.{burstsAbove, rateLeft}
 use Rattle.rule.specs.Calls.{Call}
 use Rattle.guarantees.specs.Counts.{slotsIn, grantsTo, Waits, answersFrom}
 
--- Either D × g is at least R × L − B, or R × D × g is at least R × (c + n × L − D + 1) − n × B; each subtraction stands as an
--- addition on the other side.
+-- Clause 10.6, and a little more: its second bound, which there is strict, holds here with 1 added to c + n × L.
 abbrev pub Sharp : (d n R B c L g : ℕ) → Type 0
 Sharp d n R B c L g = (R * L ≤ d * g + B) ⊎ (R * (c + n * L + 1) ≤ R * (d * g + d) + n * B)
 
@@ -21,7 +20,7 @@ Sharp d n R B c L g = (R * L ≤ d * g + B) ⊎ (R * (c + n * L + 1) ≤ R * (d 
 abbrev pub Sharper : ℕ → List Requestor → ℕ → ℕ → ℕ → ℕ → Type 0
 Sharper d rs p c L g = Sharp d (requestorAt p rs .rate) (rateLeft d p rs) (burstsAbove p rs) c L g
 
--- from any sound state, for a place that waits in each slot of the stretch
+-- clause 10.6 from any sound state, for a place that waits in each slot of the stretch
 abbrev pub Sharper-floor : Type 0
 Sharper-floor = (limit : ℕ) (s : State) → Shaped limit s → sound limit s ≡ true → (inside : List Call) (p : ℕ)
     → p < s .table .count → Waits p s inside

@@ -1,4 +1,4 @@
-// The thin form of slot: the unit's main loop lends the arbiter's state and finds it advanced by one slot.
+// The thin form of slot, through a reference, for a main loop (clause 1.4).
 use arbiter::state::Arbiter;
 use calls::slot::SlotResult;
 use calls::slot::slot;
@@ -9,7 +9,7 @@ ghost use Rattle.arbiter.specs.ByValue.{held};
 ghost use Rattle.rule.specs.Calls.{slot, called};
 ghost use Rattle.calls.specs.ByValue.{slotResultOf};
 
-// The lent state is what the by-value slot hands back, and the answer is its answer. Refused, 23 and 22: the state is as it was.
+// The lent state is what the by-value slot hands back, and the answer is its answer. Refused, 23 and 22 (clause 13.8): it is as it was.
 pub fn slot_in_place(s: &mut Arbiter) -> SlotAnswer
     ensures { λ a. ⌜ slotResultOf (record { state = now (s .exit); answer = a }) ≡ called maxPlaces (held (now (s .entry))) slot ⌝ }
 {

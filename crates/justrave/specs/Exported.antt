@@ -1,9 +1,8 @@
--- What each call for firmware does to the memory that is lent to it, and its outcome, one number. The calls are those of documents 01 and 02
--- on the state that the words are; how many places the words have room for is the `limit` of each. One of those with an outcome is lent
--- no state: it puts a table's bytes in order; and one makes a state of an old state's words, whose room is the limit of its check. `most` is
--- the largest N. Words of any length but that of 1 to `most` places, an old state's words, a lent answer, lent numbers or lent names of a
--- wrong length are 255, ahead of all else, and so is less room than the old words had. What is said of memory is said of it at exit; that lent
--- memory does not overlap is the caller's part, in Rattle and Rust by its types.
+-- What each call for firmware does to the memory that is lent to it (clauses 15.3 and 15.5), and its outcome, one number (clause 15.4). The
+-- calls are those by value on the state that the words are (clause 15.1); how many places the words have room for is the `limit` of each
+-- (clause 15.2). One of those with an outcome is lent no state: it puts a table's bytes in order; and one makes a state of an old state's
+-- words, whose room is the limit of its check. `most` is the largest N. What is said of memory is said of it at exit; that lent memory does
+-- not overlap is the caller's part (clause 15.7), in Rattle and Rust by its types.
 use mathlib.Core.Bool.{Bool, true, _&&_}
 use mathlib.Core.List.{List, [], _∷_}
 use Prim.Native.Nat.{ℕ, _+_}
@@ -34,16 +33,16 @@ use Rattle.ordered_bytes.specs.OrderBytes.{orderBytes}
 use Rattle.queries.specs.Look as look
 use Rattle.outcomes.specs.Outcomes.{refusalCode, answerCode, wrongLength}
 
--- the words of a state with room for so many places, 1 to `most`; 0 where no state has that room
+-- clause 15.1: the words of a state with room for so many places, 1 to `most`; 0 where no state has that room
 abbrev pub sizeOf : (most places : ℕ) → ℕ
 sizeOf most places = pick (inRange 1 most places) (wordCount places) 0
 
 -- A call on the state that the words are, with their room for its limit; or what comes of a wrong length of the words or of what is lent
--- beside them.
+-- beside them (clause 15.3).
 unfoldable pub onState : {X : Type 0} → (most : ℕ) → (words : List ℕ) → (beside : Bool) → (turned-down : X) → ((limit : ℕ) → State → X) → X
 onState most words beside turned-down call = pick (rightLength most words && beside) (call (roomOf words) (stateOf words)) turned-down
 
--- ---- the calls that change the state. A refused call hands back its state, so that its words are the same words (layout, RoundTrip).
+-- ---- the calls that change the state (clause 15.5). A refused call hands back its state, so its words are the same (layout, RoundTrip).
 
 pub record Stated : Type 0 where
   pub words : List ℕ
@@ -62,7 +61,7 @@ pub record Slotted : Type 0 where
   pub answer : List ℕ
   pub outcome : ℕ
 
--- the stamp, and the place granted + 1 or 0 for idle; a refused slot leaves the lent answer as it was
+-- clause 15.5: the stamp, and the place granted + 1 or 0 for idle; a refused slot leaves the lent answer as it was
 abbrev pub slotWords : (old : List ℕ) → Answer → List ℕ
 slotWords old (granted stamp p) = stamp ∷ (p + 1) ∷ []
 slotWords old (idle stamp) = stamp ∷ 0 ∷ []
@@ -90,33 +89,33 @@ ran most words log =
     onState most words true (record { words = words; log = log; outcome = wrongLength })
     λ limit s. runStated (run limit s log)
 
--- ---- the calls that make a state. What the words held before does not matter; refused, they are those of the state whose every field is 0.
+-- ---- the calls that make a state. What the words held before does not matter; refused, they are all 0 (clause 1.6).
 
--- what such a call leaves in the lent words, or what comes of a wrong length
+-- what such a call leaves in the lent words, or what comes of a wrong length (clause 15.3)
 unfoldable pub leaves : (lengths : Bool) → (words : List ℕ) → Result State Answer → Stated
 leaves lengths words made = pick lengths (stated made) (record { words = words; outcome = wrongLength })
 
--- from a table's bytes
+-- from a table's bytes (clause 4.2)
 unfoldable pub started : (most : ℕ) → (bytes : List ℕ) → (first : ℕ) → (words : List ℕ) → Stated
 started most bytes first words = leaves (rightLength most words) words (begun (roomOf words) (readTable (roomOf words) bytes) first)
 
--- from a table given as numbers
+-- from a table given as numbers (clause 4.1)
 unfoldable pub startedOf : (most : ℕ) → (numbers : List ℕ) → (first : ℕ) → (words : List ℕ) → Stated
 startedOf most numbers first words =
     leaves (rightLength most words && rightNumbers (roomOf words) numbers) words (start (roomOf words) (numbersTable (roomOf words) numbers) first)
 
--- from an old state's words, with room for at least as many places
+-- from an old state's words, with room for at least as many places (clause 11.4)
 unfoldable pub carriedOver : (old-most most : ℕ) → (old words : List ℕ) → Stated
 carriedOver old-most most old words =
     leaves (fitsInto old-most most old words) words (carry (oldRoomOf old) (roomOf words) (oldStateOf old))
 
--- ---- the calls that ask: the state stays as it is, and a refused one leaves the lent answer as it was
+-- ---- the calls that ask (clause 15.5): the state stays as it is, and a refused one leaves the lent answer as it was
 
 pub record Figured : Type 0 where
   pub answer : List ℕ
   pub outcome : ℕ
 
--- the reported wait, and the finish figure
+-- clause 15.5: the reported wait, and the finish figure
 abbrev pub figuresOutput : (old : List ℕ) → queries.FiguresAnswer → Figured
 figuresOutput old (queries.figured wait finish) = record { answer = wait ∷ finish ∷ []; outcome = 0 }
 figuresOutput old (queries.refused r) = record { answer = old; outcome = refusalCode r }
@@ -126,18 +125,18 @@ figured most words p j old =
     onState most words (eqb (length old) 2) (record { answer = old; outcome = wrongLength })
     λ limit s. figuresOutput old (queries.figures limit s p j)
 
--- the chain figure
+-- clause 15.5: the chain figure
 abbrev pub chainOutput : (old : List ℕ) → chains.ChainAnswer → Figured
 chainOutput old (chains.figured figure) = record { answer = figure ∷ []; outcome = 0 }
 chainOutput old (chains.refused r) = record { answer = old; outcome = refusalCode r }
 
--- as many names are lent as the words have room for places
+-- as many names are lent as the words have room for places (clause 15.3)
 unfoldable pub chained : (most : ℕ) → (words : List ℕ) → (place : ℕ) → (names old : List ℕ) → Figured
 chained most words p names old =
     onState most words (eqb (length old) 1 && eqb (length names) (roomOf words)) (record { answer = old; outcome = wrongLength })
     λ limit s. chainOutput old (chains.chain limit s p names)
 
--- the credit and the backlog of a place
+-- clause 15.5: the credit and the backlog of a place
 abbrev pub lookOutput : (old : List ℕ) → look.Looked Account → Figured
 lookOutput old (look.looked a) = record { answer = credit a ∷ backlog a ∷ []; outcome = 0 }
 lookOutput old (look.refused r) = record { answer = old; outcome = refusalCode r }
@@ -147,7 +146,7 @@ accountExported most words p old =
     onState most words (eqb (length old) 2) (record { answer = old; outcome = wrongLength })
     λ limit s. lookOutput old (look.accountQuery limit s p)
 
--- the slot number and N
+-- clause 15.5: the slot number and N
 abbrev pub stands : (old : List ℕ) → look.Looked look.Standing → Figured
 stands old (look.looked x) = record { answer = x .slot ∷ x .count ∷ []; outcome = 0 }
 stands old (look.refused r) = record { answer = old; outcome = refusalCode r }
@@ -161,6 +160,7 @@ pub record Led : Type 0 where
   pub answer : List ℤ
   pub outcome : ℕ
 
+-- clause 15.5: the lead
 abbrev pub leadOutput : (old : List ℤ) → leads.LeadAnswer → Led
 leadOutput old (leads.lead x) = record { answer = x ∷ []; outcome = 0 }
 leadOutput old (leads.refused r) = record { answer = old; outcome = refusalCode r }
@@ -175,7 +175,7 @@ pub record Wrote : Type 0 where
   pub answer : List ℕ
   pub outcome : ℕ
 
--- how many bytes were written
+-- clause 15.5: how many bytes were written
 abbrev pub writeWords : (old : List ℕ) → writing.WriteAnswer → List ℕ
 writeWords old (writing.wrote bytes) = bytes ∷ []
 writeWords old (writing.refused r) = old
@@ -187,7 +187,7 @@ writeCode (writing.refused r) = refusalCode r
 abbrev pub writeOutput : (old : List ℕ) → writing.TableWritten → Wrote
 writeOutput old w = record { buffer = w .buffer; answer = writeWords old (w .answer); outcome = writeCode (w .answer) }
 
--- the table of the state, and ahead of the writer's own checks test 23, as in every call on a state
+-- the table of the state, and ahead of the writer's own checks test 23 (clause 13.4)
 unfoldable pub wrote : (most : ℕ) → (words buffer old : List ℕ) → Wrote
 wrote most words buffer old =
     onState most words (eqb (length old) 1) (record { buffer = buffer; answer = old; outcome = wrongLength })
@@ -195,9 +195,9 @@ wrote most words buffer old =
     (writeOutput old (writing.writeTable limit (s .table) buffer))
     (record { buffer = buffer; answer = old; outcome = refusalCode (refusal 23) })
 
--- ---- the call that puts a table in order: no state is lent
+-- ---- the call that puts a table in order (clause 15.5): no state is lent
 
--- the bytes of the table in order, and how many they are; `most` places are room for any table
+-- clause 8.3: the bytes of the table in order, and how many they are; `most` places are room for any table (clause 15.2)
 unfoldable pub ordered : (most : ℕ) → (bytes buffer old : List ℕ) → Wrote
 ordered most bytes buffer old =
     pick (eqb (length old) 1)

@@ -1,4 +1,4 @@
-// What every call does with lent memory: the test of lengths ahead of it, and an answer of two words.
+// What every call does with lent memory: the test of lengths ahead of it (clause 15.3), and an answer of two words.
 use arbiter::state::Arbiter;
 use layout::words::length_is_right;
 ghost use mathlib.Core.Path.{_≡_};

@@ -1,5 +1,5 @@
 // The exported calls that make a state: a start from a table's bytes, one from a table given as numbers, and the carrying over of an old
-// state. Refused, every word is 0: 255 alone leaves them as they were.
+// state. Refused, every word is 0: 255 alone leaves them as they were (clause 1.6).
 use crate::lent::lengths_hold;
 use carrying::carry::carry_words;
 use carrying::carry::lengths_fit;
@@ -15,8 +15,8 @@ ghost use mathlib.Core.Path.{_≡_};
 ghost use Rattle.terms.specs.Limits.{maxPlaces, oldPlaces};
 ghost use Rattle.justrave.specs.Exported.{started, startedOf, carriedOver};
 
-// The state of a table's bytes and a first slot number. Refused: 255; 8, 9 and 1 to 5 number by number, 17 behind each
-// place; 10, 6, 7, 12.
+// The state of a table's bytes and a first slot number (clause 4.2). Refused: 255; 8, 9 and 1 to 5 number by number, 17 behind each place;
+// 10, 6, 7, 12 (clause 13.3).
 #[no_mangle]
 pub extern "C" fn justrave_start(table: &[u8], first: u64, state: &mut [u64]) -> u64
     ensures { λ r. ⌜ record { words = now (state .exit); outcome = r } ≡ started maxPlaces (now (table .entry)) first (now (state .entry)) ⌝ }
@@ -31,7 +31,7 @@ pub extern "C" fn justrave_start(table: &[u8], first: u64, state: &mut [u64]) ->
     }
 }
 
-// The same for a table given as numbers, for as many places as the words have room. Refused: 255, 1 to 7, 17, 12.
+// The same for a table given as numbers, for as many places as the words have room. Refused: 255, 1 to 7, 17, 12 (clause 13.3).
 #[no_mangle]
 pub extern "C" fn justrave_start_numbers(numbers: &[u32], first: u64, state: &mut [u64]) -> u64
     ensures { λ r. ⌜ record { words = now (state .exit); outcome = r } ≡ startedOf maxPlaces (now (numbers .entry)) first (now (state .entry)) ⌝ }
@@ -50,7 +50,8 @@ pub extern "C" fn justrave_start_numbers(numbers: &[u32], first: u64, state: &mu
     }
 }
 
-// The state of an old state's words, in words with room for at least as many places; the old words are only read. Refused: 255, 23.
+// The state of an old state's words, in words with room for at least as many places (clause 11.4); the old words are only read. Refused:
+// 255, 23 (clause 13.14).
 #[no_mangle]
 pub extern "C" fn justrave_carry(old: &[u64], state: &mut [u64]) -> u64
     ensures { λ r. ⌜ record { words = now (state .exit); outcome = r } ≡ carriedOver oldPlaces maxPlaces (now (old .entry)) (now (state .entry)) ⌝ }

@@ -25,7 +25,7 @@ ghost use mathlib.Core.Path.{_≡_};
 ghost use Rattle.terms.specs.Limits.{maxPlaces};
 ghost use Rattle.justrave.specs.Exported.{figured, chained, led, wrote, accountExported, standingExported};
 
-// The answer is the reported wait and the finish figure for j transfers. Refused: 255, 23, 11, 5.
+// The answer is the reported wait and the finish figure for j transfers (clause 7.4). Refused: 255, 23, 11, 5 (clause 13.11).
 #[no_mangle]
 pub extern "C" fn justrave_figures(state: &[u64], place: usize, j: u64, answer: &mut [u64]) -> u64
     ensures { λ r. ⌜ record { answer = now (answer .exit); outcome = r } ≡ figured maxPlaces (now (state .entry)) place j (now (answer .entry)) ⌝ }
@@ -45,8 +45,8 @@ pub extern "C" fn justrave_figures(state: &[u64], place: usize, j: u64, answer: 
     }
 }
 
-// The answer is the chain figure of the place. The names are one byte for each place that the words have room for: the place that it
-// follows, or 255 for nobody; those past the table's places are not read. Refused: 255, 23, 11, 16.
+// The answer is the chain figure of the place (clause 9.2). The names are one byte for each place that the words have room for: the place
+// that it follows, or 255 for nobody; those past the table's places are not read. Refused: 255, 23, 11, 16 (clause 13.12).
 #[no_mangle]
 pub extern "C" fn justrave_chain(
     state: &[u64],
@@ -72,7 +72,7 @@ pub extern "C" fn justrave_chain(
     }
 }
 
-// The answer is the lead of the place over the log. Refused: 255, 23, 11, 13.
+// The answer is the lead of the place over the log (clause 6.3). Refused: 255, 23, 11, 13 (clause 13.10).
 #[no_mangle]
 pub extern "C" fn justrave_lead(state: &[u64], place: usize, log: &[u8], answer: &mut [i64]) -> u64
     ensures { λ r. ⌜ record { answer = now (answer .exit); outcome = r } ≡ led maxPlaces (now (state .entry)) place (now (log .entry)) (now (answer .entry)) ⌝ }
@@ -90,7 +90,7 @@ pub extern "C" fn justrave_lead(state: &[u64], place: usize, log: &[u8], answer:
     }
 }
 
-// The table's bytes into the buffer; the answer is how many. Refused: 255, 23, then the writer's, 17, 7 and 14.
+// The table's bytes into the buffer; the answer is how many (clause 3.5). Refused: 255, 23, then the writer's, 17, 7 and 14 (clause 13.4).
 #[no_mangle]
 pub extern "C" fn justrave_write(state: &[u64], buffer: &mut [u8], answer: &mut [u64]) -> u64
     ensures { λ r. ⌜ record { buffer = now (buffer .exit); answer = now (answer .exit); outcome = r } ≡ wrote maxPlaces (now (state .entry)) (now (buffer .entry)) (now (answer .entry)) ⌝ }
@@ -111,7 +111,7 @@ pub extern "C" fn justrave_write(state: &[u64], buffer: &mut [u8], answer: &mut 
     }
 }
 
-// The answer is the credit and the backlog of the place. Refused: 255, 23, 11.
+// The answer is the credit and the backlog of the place (clause 11.3). Refused: 255, 23, 11 (clause 13.13).
 #[no_mangle]
 pub extern "C" fn justrave_account(state: &[u64], place: usize, answer: &mut [u64]) -> u64
     ensures { λ r. ⌜ record { answer = now (answer .exit); outcome = r } ≡ accountExported maxPlaces (now (state .entry)) place (now (answer .entry)) ⌝ }
@@ -121,7 +121,7 @@ pub extern "C" fn justrave_account(state: &[u64], place: usize, answer: &mut [u6
     }
     let told = account_words(state, place);
     match told {
-        AccountAnswer::Told(a) => {
+        AccountAnswer::Account(a) => {
             let q = a.backlog;
             put_two(a.credit, q.0, answer);
             0
@@ -130,7 +130,7 @@ pub extern "C" fn justrave_account(state: &[u64], place: usize, answer: &mut [u6
     }
 }
 
-// The answer is the slot number and N. Refused: 255, 23.
+// The answer is the slot number and N (clause 11.3). Refused: 255, 23 (clause 13.13).
 #[no_mangle]
 pub extern "C" fn justrave_standing(state: &[u64], answer: &mut [u64]) -> u64
     ensures { λ r. ⌜ record { answer = now (answer .exit); outcome = r } ≡ standingExported maxPlaces (now (state .entry)) (now (answer .entry)) ⌝ }

@@ -18,7 +18,7 @@ ghost use Rattle.terms.specs.Limits.{maxPlaces};
 ghost use Rattle.layout.specs.Words.{layoutVersion};
 ghost use Rattle.justrave.specs.Exported.{sizeOf, posted, slotted, ran};
 
-// Which layout the words are in. Words are kept with this number, since lengths of different layouts can agree.
+// Which layout the words are in (clause 15.6). Words are kept with this number, since lengths of different layouts can agree.
 #[no_mangle]
 pub extern "C" fn justrave_layout() -> u64
     ensures { λ r. ⌜ r ≡ layoutVersion ⌝ }
@@ -26,7 +26,7 @@ pub extern "C" fn justrave_layout() -> u64
     LAYOUT
 }
 
-// How many words a state with room for so many places has; 0 for a room that no state has.
+// How many words a state with room for so many places has (clause 15.1); 0 for a room that no state has.
 #[no_mangle]
 pub extern "C" fn justrave_state_words(places: usize) -> usize
     ensures { λ r. ⌜ r ≡ sizeOf maxPlaces places ⌝ }
@@ -40,7 +40,7 @@ pub extern "C" fn justrave_state_words(places: usize) -> usize
     words_of(places)
 }
 
-// Refused: 255, 23, 11, 21.
+// A post (clause 5.1). Refused: 255, 23, 11, 21 (clause 13.7).
 #[no_mangle]
 pub extern "C" fn justrave_post(state: &mut [u64], place: usize, count: u64) -> u64
     ensures { λ r. ⌜ record { words = now (state .exit); outcome = r } ≡ posted maxPlaces (now (state .entry)) place count ⌝ }
@@ -55,7 +55,7 @@ pub extern "C" fn justrave_post(state: &mut [u64], place: usize, count: u64) -> 
     }
 }
 
-// The answer is the stamp, and the place granted + 1 or 0 for idle. Refused: 255, 23, 22.
+// The answer is the stamp, and the place granted + 1 or 0 for idle (clause 15.5). Refused: 255, 23, 22 (clause 13.8).
 #[no_mangle]
 pub extern "C" fn justrave_slot(state: &mut [u64], answer: &mut [u64]) -> u64
     ensures { λ r. ⌜ record { words = now (state .exit); answer = now (answer .exit); outcome = r } ≡ slotted maxPlaces (now (state .entry)) (now (answer .entry)) ⌝ }
@@ -77,7 +77,7 @@ pub extern "C" fn justrave_slot(state: &mut [u64], answer: &mut [u64]) -> u64
     }
 }
 
-// As many slots as the log has bytes: the place granted, or 255 for idle. Refused: 255, 23, 13, 22.
+// As many slots as the log has bytes (clause 6.1). Refused: 255, 23, 13, 22 (clause 13.9).
 #[no_mangle]
 pub extern "C" fn justrave_run(state: &mut [u64], log: &mut [u8]) -> u64
     ensures { λ r. ⌜ record { words = now (state .exit); log = now (log .exit); outcome = r } ≡ ran maxPlaces (now (state .entry)) (now (log .entry)) ⌝ }

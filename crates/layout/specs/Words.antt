@@ -1,5 +1,5 @@
--- The state as words, one to each field: D, N and the slot number, and then, place after place, rate, burst, need, within, credit and
--- backlog. Words may have room for more places than the table has; how many is told by their length.
+-- Clause 15.1: the state as words, one to each field: D, N and the slot number, and then, place after place, rate, burst, need, within,
+-- credit and backlog. Words may have room for more places than the table has; how many is told by their length (clause 15.2).
 use mathlib.Core.Bool.{Bool, _&&_}
 use mathlib.Core.List.{List, [], _∷_, _++_}
 use Prim.Native.Nat.{ℕ, _+_, _-_, _*_, _/_}
@@ -14,7 +14,7 @@ use Rattle.terms.specs.Table.{Table, rowNumbers}
 use Rattle.terms.specs.declared.place.Account.{Account}
 use Rattle.terms.specs.State.{State}
 
--- the number of this layout: 1 had all rows, and then all accounts; 2 was this one under the old limit, and its states are carried over (carrying)
+-- the number of this layout (clause 15.6): 1 had all rows, and then all accounts; 2 was this one under the old limit (carrying)
 abbrev pub layoutVersion : ℕ
 layoutVersion = 3
 
@@ -24,19 +24,19 @@ layoutVersion = 3
 abbrev pub placeStart : (p : ℕ) → ℕ
 placeStart p = 3 + 6 * p
 
--- the words of a state with room for so many places
+-- the words of a state with room for so many places (clause 15.1)
 abbrev pub wordCount : (room : ℕ) → ℕ
 wordCount room = placeStart room
 
--- how many places words have room for
+-- how many places words have room for (clause 15.2)
 unfoldable pub roomOf : List ℕ → ℕ
 roomOf words = (length words - 3) / 6
 
--- as many words as a state with room for 1 to `most` places has: none of them goes unread
+-- as many words as a state with room for 1 to `most` places has: none of them goes unread (clause 15.3)
 unfoldable pub rightLength : (most : ℕ) → List ℕ → Bool
 rightLength most words = eqb (length words) (wordCount (roomOf words)) && inRange 1 most (roomOf words)
 
--- ---- from a state to its words
+-- ---- from a state to its words (clause 15.1)
 
 abbrev pub headWords : State → List ℕ
 headWords s = s .table .denominator ∷ s .table .count ∷ s .slot .0 ∷ []
@@ -58,7 +58,7 @@ placeWords x = rowNumbers (x .row) ++ accountWords (x .account)
 unfoldable pub stateWords : State → List ℕ
 stateWords s = headWords s ++ joined placeWords (paired place (s .table .requestors) (s .accounts))
 
--- ---- from words to the state that they are
+-- ---- from words to the state that they are (clause 15.1)
 
 -- the row and the account of a place whose words begin at `at`
 abbrev pub rowFrom : List ℕ → (at : ℕ) → Requestor

@@ -11,7 +11,7 @@ ghost use Rattle.lists.specs.Sums.{every};
 ghost use Rattle.terms.specs.Limits.{maxPlaces};
 ghost use Rattle.layout.specs.Words.{isZero, placeStart, wordCount, roomOf, rightLength, rowIn, accountIn, putHead, putSlotNumber, putBacklog, putAccount, putRow};
 
-// The number of this layout. Words that were kept under another are another's.
+// The number of this layout (clause 15.6). Words that were kept under another are another's.
 pub const LAYOUT: u64 = 3;
 
 // D, N and the slot number stand ahead of the places.

@@ -1,4 +1,4 @@
--- How many bytes of a log are a place's: each stands for a slot that was granted to it.
+-- How many bytes of a log are a place's, h in clause 6.3: each stands for a slot that was granted to it.
 use mathlib.Core.List.{List}
 use Prim.Native.Nat.{ℕ}
 use lib.Dec.{eqb}

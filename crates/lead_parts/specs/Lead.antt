@@ -1,5 +1,5 @@
--- How far a place is ahead of its rate over a log, or below 0 how far behind: D for each byte that is the place, less its rate for each byte
--- of the log. Checks: 23, 11, 13.
+-- Clause 6.3: how far a place is ahead of its rate over a log, or below 0 how far behind: D for each byte that is the place, less its rate
+-- for each byte of the log.
 use mathlib.Core.List.{List}
 use Prim.Native.Nat.{ℕ, _*_}
 use lib.IntN.{ℤ, pos, _-ℤ_}
@@ -13,7 +13,7 @@ use Rattle.lead_parts.specs.Counts.{bytesEqual}
 use Rattle.terms.specs.declared.answers.LeadAnswer as code
 use Rattle.terms.specs.declared.answers.LeadAnswer.the-variants as code-answer
 
--- the lead of place p with rate n
+-- the lead of place p with rate n (clause 6.3)
 unfoldable pub leadOf : (d n p : ℕ) → List ℕ → ℤ
 leadOf d n p log = pos (d * bytesEqual p log) -ℤ pos (n * length log)
 
@@ -25,6 +25,7 @@ pub data LeadAnswer : Type 0 where
   lead : ℤ → LeadAnswer
   refused : Refusal → LeadAnswer
 
+-- 23, 11, 13 (clause 13.10)
 unfoldable pub leadVerdict : ℕ → State → (place bytes : ℕ) → Verdict
 leadVerdict limit s p bytes = then (placeVerdict limit s p) (inputVerdict bytes)
 

@@ -1,5 +1,5 @@
--- What a line of document 01's program is made of: items with a space between two of them, numbers in decimal, and a line feed behind the
--- last. A text is a list of bytes in ASCII: a line feed is 10, a space 32, and the digits begin at 48.
+-- What a line of slotlist is made of, as clause 14.2 has it. A text is a list of bytes in ASCII: a line feed is 10, a space 32, and the
+-- digits begin at 48.
 use mathlib.Core.List.{List, [], _∷_, _++_}
 use Prim.Native.Nat.{ℕ, zero, suc, _+_, _/_, _%_}
 use lib.Dec.{ltb}
@@ -15,7 +15,7 @@ unfoldable pub digitsOf : (earlier : ℕ) → ℕ → List ℕ
 digitsOf zero n = (48 + n) ∷ []
 digitsOf (suc earlier) n = pick (ltb n 10) ((48 + n) ∷ []) (digitsOf earlier (n / 10) ++ ((48 + n % 10) ∷ []))
 
--- a number in decimal: every number of 64 bits
+-- clause 14.2: a number in decimal, for every number of 64 bits
 unfoldable pub decimal : ℕ → List ℕ
 decimal n = digitsOf maxEarlier n
 
@@ -23,6 +23,6 @@ decimal n = digitsOf maxEarlier n
 unfoldable pub spaced : List ℕ → List ℕ
 spaced item = 32 ∷ item
 
--- a line: its first item, the others, and the line feed
+-- clause 14.2: a line is its first item, the others, each behind a space, and the line feed
 unfoldable pub line : (first : List ℕ) → (others : List (List ℕ)) → List ℕ
 line first others = first ++ (joined spaced others ++ (10 ∷ []))

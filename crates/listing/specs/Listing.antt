@@ -1,6 +1,6 @@
--- What document 01's program slotlist is to print is `listing` of its input bytes. It is told in steps: each has a text, and is the last
--- one or hands on a state and the rest of the input. A step is the program's telling of its calls and no call itself: a refusal is a line
--- here. What a step reads of the input stands in reads. `limit` is the largest N throughout.
+-- What slotlist prints is `listing` of its input bytes (clauses 14.1 to 14.4). It is told in steps: each has a text, and is the last one or
+-- hands on a state and the rest of the input. A step is the program's telling of its calls and no call itself: a refusal is a line here.
+-- What a step reads of the input stands in reads. `limit` is the largest N throughout.
 use mathlib.Core.List.{List, [], _∷_, _++_}
 use Prim.Native.Nat.{ℕ, zero, suc}
 use lib.Dec.{eqb}
@@ -25,35 +25,35 @@ pub data Step : Type 0 where
 
 -- ---- a slot
 
--- the counts are posted from place p on, until one is refused
+-- clause 14.1: the counts are posted from place p on, until one is refused
 unfoldable pub posted : ℕ → State → (p : ℕ) → (counts : List ℕ) → Result State Answer
 posted limit s p [] = record { state = s; answer = accepted }
 posted limit s p (count ∷ counts) =
     let one = called limit s (post p count) in
     unless (one .answer) (λ why. one) (posted limit (one .state) (suc p) counts)
 
--- and then the slot
+-- clause 14.1: and then the slot is done
 unfoldable pub postAndSlot : ℕ → State → (counts : List ℕ) → Result State Answer
 postAndSlot limit s counts =
     let filled = posted limit s 0 counts in
     unless (filled .answer) (λ why. filled) (called limit (filled .state) slot)
 
--- A slot's line, and the state after the slot. A refusal stops; no line stands for its slot, and the state is the one before the slot's
--- counts. A slot is never just accepted.
+-- Clauses 14.2 and 14.3: a slot's line and the state after it, or a refusal's in its place and the state before the slot's counts. A slot
+-- is never just accepted.
 unfoldable pub slotOutput : (before : State) → Answer → (after : State) → (rest : List ℕ) → Step
 slotOutput before (granted stamp p) after rest = more (slotLine stamp (Place p) after) after rest
 slotOutput before (idle stamp) after rest = more (slotLine stamp Nobody after) after rest
 slotOutput before (refused why) after rest = last (refusedLine why) before
 slotOutput before accepted after rest = last [] before
 
--- a slot's counts are all read, and only then posted
+-- clauses 13.15 and 14.1: a slot's counts are all read, and only then posted
 unfoldable pub slotStep : ℕ → State → Read (List ℕ) → Step
 slotStep limit s (read counts rest) = let done = postAndSlot limit s counts in slotOutput s (done .answer) (done .state) rest
 slotStep limit s (stop why) = last (refusedLine why) s
 
--- One slot from the rest of the input, or a clean end where nothing is left of it, before the first slot too. It starts at slot 0, so
--- the slot number is the number of slots. A state that breaks a rule, which no accepted start makes and no step goes on with, is refused
--- 23 before all else; the paper leaves that free.
+-- Clauses 13.15 and 14.2: one slot from the rest of the input, or the end where nothing is left of it. The program starts at slot 0, so the
+-- slot number is the number of slots. A state that is not sound, which no accepted start makes and no step goes on with, is refused 23
+-- ahead of all else (clause 14.5).
 unfoldable pub step : ℕ → State → (rest : List ℕ) → Step
 step limit s rest =
     pick (sound limit s)
@@ -62,7 +62,7 @@ step limit s rest =
 
 -- ---- the beginning
 
--- the header goes ahead of everything, a refusal too
+-- clause 14.2: the header is ahead of everything, a refusal too
 unfoldable pub headed : ℕ → Read State → Step
 headed limit (read s rest) = more header s rest
 headed limit (stop why) = last (header ++ refusedLine why) (noState limit)
@@ -79,6 +79,7 @@ texts limit zero (last text s) = text
 texts limit (suc follow) (more text s rest) = text ++ texts limit follow (step limit s rest)
 texts limit (suc follow) (last text s) = text
 
--- What slotlist prints. Each step but the last takes a byte of the input at least, so no more steps than bytes follow the first.
+-- What slotlist prints: clauses 14.1 to 14.3, with an example in clause 14.4. Each step but the last takes a byte of the input at least, so
+-- no more steps than bytes follow the first.
 unfoldable pub listing : ℕ → (input : List ℕ) → List ℕ
 listing limit input = texts limit (length input) (firstStep limit input)

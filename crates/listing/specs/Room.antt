@@ -1,5 +1,5 @@
--- A step's text in a lent buffer. A buffer with so much room takes any step's text; with less, which the paper leaves free, the step does
--- nothing and says so.
+-- A step's text in a lent buffer (clause 14.5). A buffer with so much room takes any step's text; with less the step does nothing and
+-- says so.
 use mathlib.Core.List.{List}
 use Prim.Native.Nat.{ℕ, _+_, _*_}
 use lib.Dec.{leb}

@@ -1,4 +1,4 @@
-// A slot with its counts: they are posted from place 0 on, and then the slot is done.
+// A slot with its counts (clause 14.1).
 use arbiter::state::Arbiter;
 use calls::post::PostResult;
 use calls::post::post;

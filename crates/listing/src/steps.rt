@@ -1,4 +1,5 @@
-// The steps of the program: each puts its text at the start of a lent buffer, and hands on the state and how much of the input it took.
+// The steps of slotlist (section 14): each puts its text at the start of a lent buffer, and hands on the state and how much of the input it
+// took.
 use crate::post_and_slot::post_and_slot;
 use arbiter::state::Arbiter;
 use calls::slot::SlotResult;
@@ -105,7 +106,7 @@ fn slot_step(s: Arbiter, rest: &[u8], out: &mut [u8]) -> StepResult
     }
 }
 
-// One slot from the rest of the input, or the end. Its line may be a refusal's: 23, 8, 9, 21, 22.
+// One slot from the rest of the input, or the end. Its line may be a refusal's: 23, and of clause 13.15 8, 9, 21, 22.
 pub fn step(s: Arbiter, rest: &[u8], out: &mut [u8]) -> StepResult
     ensures { λ r. ⌜ outcomeOf (now (rest .entry)) r (now (out .exit)) ≡ inBuffer maxPlaces (step maxPlaces (held s) (now (rest .entry))) (held s) (now (out .entry)) ⌝ }
     ensures took { λ r. ⌜ takenBy (r .output) ≤ length (now (rest .entry)) ⌝ }
@@ -131,7 +132,7 @@ pub fn step(s: Arbiter, rest: &[u8], out: &mut [u8]) -> StepResult
     slot_step(s, rest, out)
 }
 
-// The header, and behind it the refusal's line if the input begins with a fault: 13, 8, 9, and the table's 1 to 7, 10 and 17.
+// The header, and behind it the refusal's line if the input begins with a fault (clause 13.15): 13, 8, 9, and the table's.
 pub fn first_step(input: &[u8], out: &mut [u8]) -> StepResult
     ensures { λ r. ⌜ outcomeOf (now (input .entry)) r (now (out .exit)) ≡ inBuffer maxPlaces (firstStep maxPlaces (now (input .entry))) (noState maxPlaces) (now (out .entry)) ⌝ }
     ensures took { λ r. ⌜ takenBy (r .output) ≤ length (now (input .entry)) ⌝ }

@@ -1,4 +1,4 @@
--- The elements of a list in another order: the same ones, each as often.
+-- The elements of a list in another order: the same ones, each as often (clause 8.2).
 use mathlib.Core.Path.{_≡_}
 use mathlib.Core.Bool.{Bool, true}
 use mathlib.Core.List.{List, [], _∷_}
@@ -16,7 +16,7 @@ without (suc i) (x ∷ xs) = x ∷ without i xs
 unfoldable pub occurrences : {A : Type 0} → (same : A → A → Bool) → A → List A → ℕ
 occurrences same x ys = total (λ y. pick (same x y) 1 0) ys
 
--- every element stands in the one as often as in the other
+-- every element stands in the one as often as in the other (clause 8.2)
 abbrev pub Permuted : {A : Type 0} → (same : A → A → Bool) → List A → List A → Type 0
 Permuted {A} same xs ys = (x : A) → occurrences same x xs ≡ occurrences same x ys
 

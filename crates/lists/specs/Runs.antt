@@ -7,7 +7,7 @@ pub record Result (S A : Type 0) : Type 0 where
   pub answer : A
 
 module _ {S C A : Type 0} (step : S → C → Result S A) where
-  -- the state after the calls; each gets the state that the one before handed back
+  -- the state after the calls; each is handed what its forerunner left
   unfoldable pub end : S → List C → S
   end s [] = s
   end s (c ∷ cs) = end (step s c .state) cs

@@ -1,4 +1,4 @@
--- Words that passed test 23, and their D and N.
+-- Words that passed test 23 (clause 11.1), and their D and N.
 use mathlib.Core.Path.{_≡_}
 use mathlib.Core.Bool.{true}
 use mathlib.Core.List.{List}

@@ -202,7 +202,7 @@ start-of-numbers-shaped room numbers first = start-of room (numbersTable room nu
 
 -- ---- what a call comes to
 
--- it was carried out, or turned down by a refusal of document 01's, and then all stands
+-- it was carried out, or turned down by a refusal that is not 255, and then all stands
 pub data Ends (room outcome : ℕ) (Stands : Type 0) : Type 0 where
   went : outcome ≡ 0 → Ends room outcome Stands
   turned : (r : Refusal) → AmongRefusals ofAnyCall room r → outcome ≡ refusalCode r → Stands → Ends room outcome Stands

@@ -1,7 +1,8 @@
 -- What holds of the calls on lent words beyond each one's own definition. On a state's words, with room for as many places as one likes up
--- to the largest N, they are the calls by value, one by one and in a row, and any words of a right length are a state's (layout, RoundTrip).
--- 255 tells a wrong length and 23 a state that breaks a rule. An outcome other than 0 says that nothing was done to what was lent; a refused
--- start or carrying over alone clears the words. `most` is the largest N. That room makes no difference: Room.
+-- to the largest N, they are the calls by value (clause 15.1), one by one and in a row, and any words of a right length are a state's
+-- (layout, RoundTrip). 255 tells a wrong length (clause 15.3) and 23 a state that breaks a rule (clause 11.1). An outcome other than 0 says
+-- that nothing was done to what was lent (clause 1.5); a refused start or carrying over alone clears the words (clause 1.6). `most` is the
+-- largest N. That room makes no difference: Room.
 use mathlib.Core.Path.{_≡_}
 use mathlib.Core.Bool.{Bool, true, false, _&&_}
 use mathlib.Core.List.{List, [], _∷_, map}
@@ -34,7 +35,7 @@ pub record Fits (most room : ℕ) (s : State) : Type 0 where
   pub some : 1 ≤ room
   pub few : room ≤ most
 
--- ---- one call
+-- ---- one call (clause 15.1)
 
 abbrev pub Post-by-value : Type 0
 Post-by-value =
@@ -47,7 +48,7 @@ Start-by-value =
     (most : ℕ) (t : Table) (first : ℕ) (words : List ℕ) → rightLength most words ≡ true → length (t .requestors) ≡ roomOf words
     → startedOf most (allNumbers t) first words ≡ stated (start (roomOf words) t first)
 
--- a start from accepted bytes, and one from the numbers of the table that was read
+-- clause 4.2: a start from accepted bytes, and one from the numbers of the table that was read
 abbrev pub Starts-agree : Type 0
 Starts-agree =
     (most : ℕ) (bytes : List ℕ) (first : ℕ) (words : List ℕ) → readTable (roomOf words) bytes .answer ≡ accepted
@@ -94,7 +95,7 @@ Write-by-value =
     (most room : ℕ) (s : State) (buffer old : List ℕ) → Fits most room s → length old ≡ 1 → sound room s ≡ true
     → wrote most (stateWords s) buffer old ≡ writeOutput old (writing.writeTable room (s .table) buffer)
 
--- ---- calls in a row
+-- ---- calls in a row (clause 15.1)
 
 -- what a main loop lends, call after call
 pub record Buffers : Type 0 where
@@ -125,7 +126,7 @@ In-a-row =
     (end (callOnBuffers most) buffers calls ≡ record { words = stateWords (end (called room) s calls); answer = lastOutput old answered })
     × (answers (callOnBuffers most) buffers calls ≡ map answerCode answered)
 
--- the state whose words a start leaves, whatever the bytes or the numbers, is one that the claims above hold for
+-- clause 15.1: the state whose words a start leaves, whatever the bytes or the numbers, is one that the claims above hold for
 abbrev pub Start-shaped : Type 0
 Start-shaped = (room : ℕ) (bytes : List ℕ) (first : ℕ) → Shaped room (begun room (readTable room bytes) first .state)
 
@@ -134,7 +135,8 @@ Start-of-numbers-shaped = (room : ℕ) (numbers : List ℕ) (first : ℕ) → Sh
 
 -- ---- 255 and 23
 
--- 255 is the outcome exactly where the lent words, an old state's words, the lent answer, the numbers or the names have a wrong length
+-- clause 15.3: 255 is the outcome exactly where the lent words, an old state's words, the lent answer, the numbers or the names have a
+-- wrong length
 abbrev pub Exactly-255 : (lengths : Bool) → (outcome : ℕ) → Type 0
 Exactly-255 lengths outcome = (lengths ≡ false → outcome ≡ wrongLength) × (outcome ≡ wrongLength → lengths ≡ false)
 
@@ -153,10 +155,11 @@ pub record Lengths (most : ℕ) (words : List ℕ) : Type 0 where
   pub lead : (p : ℕ) (log : List ℕ) (old : List ℤ) → Exactly-255 (rightLength most words && eqb (length old) 1) (led most words p log old .outcome)
   pub write : (buffer old : List ℕ) → Exactly-255 (rightLength most words && eqb (length old) 1) (wrote most words buffer old .outcome)
 
+-- clauses 12.255 and 15.3
 abbrev pub Wrong-length : Type 0
 Wrong-length = (most : ℕ) (words : List ℕ) → Lengths most words
 
--- with the right lengths, words that are no sound state's are 23 in every call, whatever else is handed in
+-- clause 11.1: with the right lengths, words that are no sound state's are 23 in every call, whatever else is handed in
 pub record Broken (most : ℕ) (words : List ℕ) : Type 0 where
   pub post : (p count : ℕ) → posted most words p count .outcome ≡ 23
   pub slot : (old : List ℕ) → length old ≡ 2 → slotted most words old .outcome ≡ 23
@@ -171,7 +174,7 @@ pub record Broken (most : ℕ) (words : List ℕ) : Type 0 where
 abbrev pub Broken-words : Type 0
 Broken-words = (most : ℕ) (words : List ℕ) → rightLength most words ≡ true → sound (roomOf words) (stateOf words) ≡ false → Broken most words
 
--- ---- what was not carried out
+-- ---- what was not carried out (clause 1.5)
 
 abbrev pub Refused : (outcome : ℕ) → Type 0
 Refused outcome = outcome ≡ 0 → ⊥
@@ -221,7 +224,7 @@ Write-refused =
     (most : ℕ) (words buffer old : List ℕ) → let r = wrote most words buffer old in
     Refused (r .outcome) → (r .buffer ≡ buffer) × (r .answer ≡ old)
 
--- a refused start clears the words; 255 leaves them as they were
+-- clause 1.6: a refused start clears the words; 255 leaves them as they were
 abbrev pub Clears : (words : List ℕ) → Stated → Type 0
 Clears words r =
     (Refused (r .outcome) → (r .outcome ≡ wrongLength → ⊥) → r .words ≡ replicate (length words) 0)

@@ -1,5 +1,6 @@
--- Document 02, request 1, turns no installed basin away: what a unit with the former finish figure took, as a table's bytes or as numbers,
--- begins a state with outcome 0, if each need fits its burst. Where one does not, request 6 refuses it with 17, and nothing else is found.
+-- Clause 7.5 turns no installed basin away: what a unit with the figure from before request 1 took, as a table's bytes or as numbers,
+-- begins a state with outcome 0, if each need fits its burst. Where one does not, it is refused 17 since request 6, and nothing else is
+-- found.
 use mathlib.Core.Path.{_≡_}
 use mathlib.Core.Bool.{true}
 use mathlib.Core.List.{List}
@@ -29,17 +30,17 @@ pub record FormerlyRead (limit : ℕ) (bytes : List ℕ) (t : Table) : Type 0 wh
   pub numbers : formerNumbers limit bytes ≡ read t rest
   pub last : formerLast t rest ≡ faultless
 
--- they are read as it, or refused 17
+-- clause 7.5: they are read as it, or refused 17
 abbrev pub Still-read : Type 0
 Still-read = (limit : ℕ) (bytes : List ℕ) (t : Table) → FormerlyRead limit bytes t → readTable limit bytes ≡ resolve (needsFitVerdict t) (accept t) (refuse limit)
 
--- a start from them tells 0, and begins that table
+-- clause 7.5: a start from them tells 0, and begins that table
 abbrev pub Installed-bytes-begin : Type 0
 Installed-bytes-begin =
     (most : ℕ) (bytes : List ℕ) (t : Table) (first : ℕ) (words : List ℕ) → rightLength most words ≡ true → FormerlyRead (roomOf words) bytes t → needsFitVerdict t ≡ faultless → first ≤ maxSlot
     → (started most bytes first words .outcome ≡ 0) × Begins (roomOf words) t first (started most bytes first words .words)
 
--- and so does one from a table's numbers
+-- and so does one from a table's numbers (clause 7.5)
 abbrev pub Installed-numbers-begin : Type 0
 Installed-numbers-begin =
     (most : ℕ) (numbers : List ℕ) (first : ℕ) (words : List ℕ) → rightLength most words ≡ true → rightNumbers (roomOf words) numbers ≡ true

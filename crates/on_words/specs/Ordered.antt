@@ -1,6 +1,6 @@
--- The exported call that puts a table in order: a refusal leaves what was lent, 255 tells a lent answer of a wrong length, an order that passes
--- is found, and what was written with outcome 0 begins a line in any words that have room for its N: one with the requestors of the list,
--- for which demand 3 and the needs hold.
+-- The exported call that puts a table in order: a refusal leaves what was lent, 255 tells a lent answer of a wrong length, an order that
+-- passes is found, and what was written with outcome 0 begins a line in any words that have room for its N: one with the requestors of the
+-- list, for which demand 3 and the needs hold (clause 8.4).
 use mathlib.Core.Path.{_≡_}
 use mathlib.Core.Bool.{true}
 use mathlib.Core.List.{List, []}
@@ -22,15 +22,17 @@ use Rattle.ordered_tables.specs.Promised.{Promised}
 use Rattle.justrave.specs.Exported.{Wrote, started, ordered}
 use Rattle.on_words.specs.Claims.{Exactly-255, Refused}
 
+-- clause 1.5, and clause 15.3 for 255
 abbrev pub Order-refused : Type 0
 Order-refused =
     (most : ℕ) (bytes buffer old : List ℕ) → let r = ordered most bytes buffer old in
     Refused (r .outcome) → (r .buffer ≡ buffer) × (r .answer ≡ old)
 
+-- clause 15.3
 abbrev pub Order-255 : Type 0
 Order-255 = (most : ℕ) (bytes buffer old : List ℕ) → Exactly-255 (eqb (length old) 1) (ordered most bytes buffer old .outcome)
 
--- where some order passes, and there is room for as many bytes, the outcome is 0
+-- clause 8.2: where some order passes, and there is room for as many bytes, the outcome is 0
 abbrev pub Order-accepted : Type 0
 Order-accepted =
     (most : ℕ) (bytes buffer old : List ℕ) (t v : Table) → Bytes bytes → numbersRead most bytes ≡ read t [] → Reordered t v → admissionVerdict most v ≡ faultless
@@ -40,7 +42,7 @@ Order-accepted =
 abbrev pub writtenBytes : Wrote → List ℕ
 writtenBytes r = take (getD (r .answer) 0 0) (r .buffer)
 
--- a line that was begun with the bytes `made` of the list t in order
+-- clause 8.4: a line that was begun with the bytes `made` of the list t in order
 pub record OrderedLine (most : ℕ) (t : Table) (made : List ℕ) (first : ℕ) (words : List ℕ) : Type 0 where
   pub accepted : started most made first words .outcome ≡ 0
   pub line : Table
@@ -50,6 +52,7 @@ pub record OrderedLine (most : ℕ) (t : Table) (made : List ℕ) (first : ℕ) 
   pub requestors : Permuted sameRequestor (requestorsOf line) (requestorsOf t)
   pub promised : Promised (roomOf words) line first
 
+-- clause 8.4
 abbrev pub Ordered-bytes-begin : Type 0
 Ordered-bytes-begin =
     (most : ℕ) (bytes buffer old : List ℕ) (t : Table) (first : ℕ) (words : List ℕ) → most ≤ maxNumber → rightLength most words ≡ true → first ≤ maxSlot

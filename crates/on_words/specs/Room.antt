@@ -1,9 +1,9 @@
--- Room makes no difference. Behind its N places a state's words may have room for more, which is zeros. With more zeros behind them, up to
--- the largest N, each call tells the same, and leaves the same words in front of as many zeros. Read the other way round: zeros behind may
--- be left away. So it is with any words of a right length, and not a sound state's alone: the others are 23 both ways. Those among them
--- whose N is above their room are so with more room too, since the zeros that N then counts as a place are no requestor's: its rate is 0.
--- A start can tell the room, by 2, where it is too little for N; and a carrying over, by 255. `most` is the largest N where the zeros are
--- put behind, and `old-most` where they are not: in one unit the same, and beside an old unit that one's.
+-- Clause 15.2: room makes no difference. Behind its N places a state's words may have room for more, which is zeros. With more zeros behind
+-- them, up to the largest N, each call tells the same, and leaves the same words in front of as many zeros. Read the other way round: zeros
+-- behind may be left away. So it is with any words of a right length, and not a sound state's alone: the others are 23 both ways. Those
+-- among them whose N is above their room are so with more room too, since the zeros that N then counts as a place are no requestor's: its
+-- rate is 0. A start can tell the room, by 2, where it is too little for N; and a carrying over, by 255. `most` is the largest N where the
+-- zeros are put behind, and `old-most` where they are not: in one unit the same, and beside an old unit that one's.
 use mathlib.Core.Path.{_≡_}
 use mathlib.Core.Bool.{true}
 use mathlib.Core.List.{List, _++_}
@@ -56,10 +56,11 @@ pub record Alike (old-most most extra : ℕ) (words : List ℕ) : Type 0 where
   pub lead : (p : ℕ) (log : List ℕ) (old : List ℤ) → led most (more extra words) p log old ≡ led old-most words p log old
   pub write : (buffer old : List ℕ) → wrote most (more extra words) buffer old ≡ wrote old-most words buffer old
 
+-- clause 15.2
 abbrev pub Any-room : Type 0
 Any-room = (old-most most extra : ℕ) (words : List ℕ) → rightLength old-most words ≡ true → roomOf words + extra ≤ most → Alike old-most most extra words
 
--- any list of posts and slots: the words at the end, the lent answer, and each outcome
+-- clause 15.2 of any list of posts and slots: the words at the end, the lent answer, and each outcome
 abbrev pub Any-room-in-a-row : Type 0
 Any-room-in-a-row =
     (old-most most extra : ℕ) (buffers : Buffers) (calls : List Call) → rightLength old-most (buffers .words) ≡ true → roomOf (buffers .words) + extra ≤ most

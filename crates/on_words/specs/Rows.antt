@@ -1,6 +1,6 @@
--- Worked examples of the calls on lent words, with document 01's table T and cases 2, 3 and 5. A row is a call, and what was lent and the
--- outcome after it; what is not in the paper was worked out by hand. A state of T is 15 words in room for its 2 places, and 387 in room
--- for the largest N.
+-- Worked examples of the calls on lent words (clauses 15.1 to 15.5), with table T and the cases of clauses 16.1 to 16.3, 16.5 and 16.11. A
+-- row is a call, and what was lent and the outcome after it; what is not in section 16 was worked out by hand. A state of T is 15 words in
+-- room for its 2 places, and 387 in room for the largest N.
 use mathlib.Core.Path.{_≡_}
 use mathlib.Core.List.{List, [], _∷_, _++_, map}
 use Prim.Native.Nat.{ℕ, suc, _+_, _-_, _*_}
@@ -43,14 +43,14 @@ wide = wordsIn maxPlaces 4294967296 0 8 0 4 0
 abbrev pub unused : ℕ → List ℕ
 unused n = replicate n 90
 
--- the log of case 3
+-- the log of clause 16.3
 abbrev pub nineSlots : List ℕ
 nineSlots = 0 ∷ 0 ∷ 1 ∷ 0 ∷ 1 ∷ 255 ∷ 255 ∷ 1 ∷ 255 ∷ []
 
 abbrev pub bytesT : (last : ℕ) → List ℕ
 bytesT last = 4 ∷ 2 ∷ 1 ∷ 8 ∷ 1 ∷ 4 ∷ 1 ∷ 4 ∷ 1 ∷ last ∷ []
 
--- case 11's table with this L at place 1
+-- the table of clause 16.11 with this L at place 1
 abbrev pub bytesFive : (within : ℕ) → List ℕ
 bytesFive within = 5 ∷ 2 ∷ 1 ∷ 6 ∷ 1 ∷ 5 ∷ 2 ∷ 5 ∷ 1 ∷ within ∷ []
 
@@ -156,12 +156,12 @@ ordering bytes buffer old after answer o = record {
 
 unfoldable pub startRows : List Row
 startRows =
-    -- a start writes T's words
+    -- a start writes T's words (clause 16.1)
     starting (bytesT 7) 0 (unused (wordCount maxPlaces)) fresh 0
-    -- case 2: refused 7 at place 1 is 7 + 256 × 2; every word is 0. No bytes are refused 8, which names no place
+    -- clause 16.2: refused 7 at place 1 is 7 + 256 × 2; every word is 0. No bytes are refused 8, which names no place
     ∷ starting (bytesT 6) 0 (unused (wordCount maxPlaces)) (replicate (wordCount maxPlaces) 0) 519
     ∷ starting [] 0 (unused (wordCount maxPlaces)) (replicate (wordCount maxPlaces) 0) 8
-    -- request 1's basin: accepted with the figure 4 for the probe's L, and refused 7 at place 1 with one less
+    -- clause 16.11: accepted with the figure 4 for the probe's L, and refused 7 at place 1 with one less
     ∷ starting (bytesFive 4) 0 (unused 15) (5 ∷ 2 ∷ 0 ∷ 1 ∷ 6 ∷ 1 ∷ 5 ∷ 6 ∷ 0 ∷ 2 ∷ 5 ∷ 1 ∷ 4 ∷ 5 ∷ 0 ∷ []) 0
     ∷ starting (bytesFive 3) 0 (unused 15) (replicate 15 0) 519
     -- a first slot number past its limit is refused 12
@@ -173,7 +173,7 @@ startRows =
 
 unfoldable pub numberRows : List Row
 numberRows =
-    -- T's numbers are T; case 2's L is refused 7 at place 1, and a number past T's two places 2, the first of them or the last
+    -- T's numbers are T; the L of clause 16.2 is refused 7 at place 1, and a number past T's two places 2, the first of them or the last
     numbering (numbersT 7 (replicate pastT 0)) 0 (unused (wordCount maxPlaces)) fresh 0
     ∷ numbering (numbersT 6 (replicate pastT 0)) 0 (unused (wordCount maxPlaces)) (replicate (wordCount maxPlaces) 0) 519
     ∷ numbering (numbersT 7 (1 ∷ replicate (pastT - 1) 0)) 0 (unused (wordCount maxPlaces)) (replicate (wordCount maxPlaces) 0) 2
@@ -189,8 +189,8 @@ numberRows =
     ∷ numbering (numbersT 6 (replicate pastT 0)) 0 (unused (wordCount maxPlaces + 1)) (unused (wordCount maxPlaces + 1)) 255
     ∷ []
 
--- T after two slots of case 3 as an old unit kept it, with this room and this n at place 1: D, N, the slot number, then n, b, j, L, c and q of
--- each place, and zeros
+-- T after two slots of clause 16.3 as an old unit kept it, with this room and this n at place 1: D, N, the slot number, then n, b, j, L, c
+-- and q of each place, and zeros
 abbrev pub oldT : (room n : ℕ) → List ℕ
 oldT room n = 4 ∷ 2 ∷ 2 ∷ 1 ∷ 8 ∷ 1 ∷ 4 ∷ 2 ∷ 1 ∷ n ∷ 4 ∷ 1 ∷ 7 ∷ 6 ∷ 3 ∷ replicate (6 * (room - 2)) 0
 
@@ -221,7 +221,7 @@ carryRows =
 
 unfoldable pub postRows : List Row
 postRows =
-    -- case 3: three posted to each; place 2 is refused 11, and a backlog past its limit 21
+    -- clause 16.3: three posted to each; place 2 is refused 11, and a backlog past its limit 21
     posting fresh 0 3 (wordsT 0 8 3 4 0) 0
     ∷ posting (wordsT 0 8 3 4 0) 1 3 threeEach 0
     ∷ posting fresh 2 1 fresh 11
@@ -237,11 +237,11 @@ postRows =
 
 unfoldable pub slotRows : List Row
 slotRows =
-    -- granted in slot 0 to place 0, told as 1; idle with nothing waiting, told as 0; the last slot number is refused 22
+    -- clause 15.5: granted in slot 0 to place 0, told as 1; idle with nothing waiting, told as 0; the last slot number is refused 22
     slotting threeEach (90 ∷ 91 ∷ []) (wordsT 1 5 2 5 3) (0 ∷ 1 ∷ []) 0
     ∷ slotting (freshAt 7) (90 ∷ 91 ∷ []) (freshAt 8) (7 ∷ 0 ∷ []) 0
     ∷ slotting (freshAt maxSlot) (90 ∷ 91 ∷ []) (freshAt maxSlot) (90 ∷ 91 ∷ []) 22
-    -- case 3's slot 2 goes to place 1, told as 2; in its slot 5 nobody has the credit, though one waits
+    -- slot 2 of clause 16.3 goes to place 1, told as 2; in its slot 5 nobody has the credit, though one waits
     ∷ slotting (wordsT 2 2 1 6 3) (90 ∷ 91 ∷ []) (wordsT 3 3 1 3 2) (2 ∷ 2 ∷ []) 0
     ∷ slotting (wordsT 5 1 0 1 1) (90 ∷ 91 ∷ []) (wordsT 6 2 0 2 1) (5 ∷ 0 ∷ []) 0
     -- words that are all 0 are no state's
@@ -255,7 +255,7 @@ slotRows =
 
 unfoldable pub runRows : List Row
 runRows =
-    -- case 3's nine slots
+    -- the nine slots of clause 16.3
     running threeEach (unused 9) (wordsT 9 5 0 1 0) nineSlots 0
     -- a run that would pass the last slot number is refused 22
     ∷ running (freshAt maxSlot) (90 ∷ []) (freshAt maxSlot) (90 ∷ []) 22
@@ -270,7 +270,7 @@ queryRows =
     ∷ figuring fresh 1 0 (90 ∷ 91 ∷ []) (90 ∷ 91 ∷ []) 517
     ∷ figuring wide 0 1 (90 ∷ 91 ∷ []) (90 ∷ 91 ∷ []) 23
     ∷ figuring fresh 1 1 (90 ∷ []) (90 ∷ []) 255
-    -- case 5: both lead by 3 after the nine slots; over the first two bytes place 1 has −2
+    -- clause 16.5: both lead by 3 after the nine slots, and place 1 by −2 after two
     ∷ leading fresh 0 nineSlots (pos 90 ∷ []) (pos 3 ∷ []) 0
     ∷ leading fresh 1 nineSlots (pos 90 ∷ []) (pos 3 ∷ []) 0
     ∷ leading fresh 1 (0 ∷ 0 ∷ []) (pos 90 ∷ []) (negsuc 1 ∷ []) 0
@@ -337,7 +337,7 @@ roomRows =
     ∷ numbering (4 ∷ 2 ∷ 1 ∷ 8 ∷ 1 ∷ 4 ∷ []) 0 (unused 9) (replicate 9 0) 2
     -- the numbers have the words' room
     ∷ numbering (numbersT 7 (replicate 4 0)) 0 (unused 15) (unused 15) 255
-    -- case 3 in 15 words and in 21
+    -- clause 16.3 in 15 words and in 21
     ∷ posting (wordsIn 2 1 0 8 3 4 0) 1 3 (wordsIn 2 1 0 8 3 4 3) 0
     ∷ posting (wordsIn 3 1 0 8 3 4 0) 1 3 (wordsIn 3 1 0 8 3 4 3) 0
     ∷ posting (wordsIn 2 1 0 8 3 4 0) 2 1 (wordsIn 2 1 0 8 3 4 0) 11
@@ -383,7 +383,7 @@ wordsThrice slot c q d e = 4 ∷ 2 ∷ slot ∷ 1 ∷ 8 ∷ 1 ∷ 4 ∷ c ∷ q 
 unfoldable pub numbersThrice : (burst : ℕ) → List ℕ
 numbersThrice burst = 4 ∷ 2 ∷ 1 ∷ 8 ∷ 1 ∷ 4 ∷ 1 ∷ burst ∷ 3 ∷ 15 ∷ []
 
--- request 6: no start takes it, and every call but a write serves a state with it
+-- no start takes it (clause 2.3), and every call but a write serves a state with it (clauses 2.5 and 13.4)
 unfoldable pub needRows : List Row
 needRows =
     -- refused 17 at place 1 is 17 + 256 × 2; a burst of 12 holds the three. At place 0 it is 17 + 256, where the bytes end behind it
@@ -426,7 +426,7 @@ lengthRows =
 abbrev pub Sizes : Type 0
 Sizes = map (sizeOf maxPlaces) (0 ∷ 1 ∷ 2 ∷ 3 ∷ maxPlaces ∷ suc maxPlaces ∷ []) ≡ 0 ∷ 9 ∷ 15 ∷ 21 ∷ 387 ∷ 0 ∷ []
 
--- what each row asks for is what is written
+-- what each row asks for is what is written (clause 15.5)
 abbrev pub Pass : List Row → Type 0
 Pass rows = map (λ r. r .query) rows ≡ map (λ r. r .written) rows
 

@@ -1,5 +1,5 @@
--- From the bytes of a table to those of the table in order. Up to 6 the checks are a reading's, in its order; 15 stands where 7 would, and
--- 14 is the last. A refusal writes no byte.
+-- From the bytes of a table to those of the table in order (clause 8.3), and the checks (clause 13.6): up to 6 a reading's, in its order;
+-- 15 stands where 7 would, and 14 is the last. A refusal writes no byte.
 use mathlib.Core.List.{List}
 use Prim.Native.Nat.{ℕ}
 use lib.ListN.{length}
@@ -11,11 +11,11 @@ use Rattle.table_bytes.specs.Reading.{Read, read, stop, leftVerdict, numbersRea
 use Rattle.table_bytes.specs.Writing.{refused, TableWritten, roomVerdict, writtenBy}
 use Rattle.ordering.specs.Order.{orderOf, found}
 
--- 10, then 6
+-- 10, then 6 (clause 13.6)
 unfoldable pub listedVerdict : Table → (rest : List ℕ) → Verdict
 listedVerdict t rest = then (leftVerdict rest) (rateSumVerdict t)
 
--- the table that was read, in order
+-- clause 13.6: the table that was read, in order
 unfoldable pub orderRead : ℕ → Read Table → TableResult
 orderRead limit (read t rest) = resolve (listedVerdict t rest) (found limit t (orderOf t)) (refuse limit)
 orderRead limit (stop why) = refuse limit why
@@ -24,6 +24,6 @@ orderRead limit (stop why) = refuse limit why
 abbrev pub writtenInOrder : TableResult → (old : List ℕ) → TableWritten
 writtenInOrder o old = unless (o .answer) (λ why. record { answer = refused why; buffer = old }) (writtenBy (roomVerdict (o .table) (length old)) (o .table) old)
 
--- `limit` is how many places there is room for
+-- clause 8.3; `limit` is how many places there is room for
 unfoldable pub orderBytes : ℕ → (bytes old : List ℕ) → TableWritten
 orderBytes limit bytes old = writtenInOrder (orderRead limit (numbersRead limit bytes)) old

@@ -1,4 +1,4 @@
--- A table put in order where it stands in a state's words, and what the search knows of them on its way.
+-- A table put in order where it stands in a state's words (clause 8.1), and what the search knows of them on its way.
 use mathlib.Core.Path.{_≡_}
 use mathlib.Core.List.{List, _∷_, _++_}
 use mathlib.Core.Option.{Option, none, some}
@@ -18,7 +18,7 @@ use Rattle.admission.specs.Checked.{tableIn, rowsIn, OfferChecked}
 use Rattle.ordering.specs.declared.search.Holding.{Holding}
 use Rattle.ordering.specs.declared.search.Holding.the-variants as holding
 
--- a state whose table was put in order: the slot number and the accounts stay; a refusal leaves a state that is all 0
+-- a state whose table was put in order: the slot number and the accounts stay; a refusal leaves a state that is all 0 (clause 1.6)
 abbrev pub inState : ℕ → State → TableResult → Result State Answer
 inState limit s o = unless (o .answer) (turnedDown limit) (record { state = withTable s (o .table); answer = accepted })
 

@@ -1,6 +1,6 @@
--- Document 02, request 2: a table whose requestors are listed by someone who does not know their priorities. The last place, N−1, is given
--- away first, then the one above it, and so on up to place 0. It goes to the last requestor in the list that can do with every other one of
--- the list above it; that one leaves the list, which is otherwise as it was. The checks are 1 to 6 and 17 of the table as it is listed, then 15.
+-- Clause 8.1: a table whose requestors are listed by someone who does not know their priorities. The last place, N−1, is given away first,
+-- then the one above it, and so on up to place 0. It goes to the last requestor in the list that can do with every other one of the list
+-- above it; that one leaves the list, which is otherwise as it was. The checks are those of clause 13.5, on the table as it is listed.
 use mathlib.Core.Bool.{Bool}
 use mathlib.Core.List.{List, [], _∷_}
 use mathlib.Core.Option.{Option, none, some, bind}
@@ -18,11 +18,11 @@ use Rattle.terms.specs.Answers.{orderAnswerOf}
 use Rattle.arbiter.specs.ByValue.{given}
 use Rattle.ordering.specs.declared.order.OrderResult.{OrderResult}
 
--- r can do with these requestors above it: its finish figure for its j transfers is then within its L slots
+-- clause 8.1: r can do with these requestors above it: its finish figure for its j transfers is then within its L slots
 unfoldable pub needHolds : ℕ → (above : List Requestor) → Requestor → Bool
 needHolds d above r = leb (finishOf d (total burst above) (d - total rate above) (r .rate) (r .need .0)) (r .within .0)
 
--- the index of the last among the first i of the list that can do with all the list but itself above it
+-- clause 8.1: the index of the last among the first i of the list that can do with all the list but itself above it
 unfoldable pub lastHolding : ℕ → (remaining : List Requestor) → (i : ℕ) → Option ℕ
 lastHolding d remaining zero = none
 lastHolding d remaining (suc i) = pick (needHolds d (without i remaining) (requestorAt i remaining)) (some i) (lastHolding d remaining i)
@@ -36,12 +36,12 @@ filledUp d (suc k) remaining filled = bind (lastHolding d remaining (suc k)) λ 
 abbrev pub orderOf : Table → Option (List Requestor)
 orderOf t = filledUp (t .denominator) (t .count) (requestorsOf t) []
 
--- the table with them, or 15
+-- the table with them, or 15 (clause 12.15)
 abbrev pub found : ℕ → Table → Option (List Requestor) → TableResult
 found limit t none = refuse limit (refusal 15)
 found limit t (some rows) = accept (tableOf limit (t .denominator) (t .count) rows)
 
--- a table put in order; `limit` is how many places there is room for
+-- a table put in order (clauses 8.1 and 13.5); `limit` is how many places there is room for
 unfoldable pub order : ℕ → Table → TableResult
 order limit t = resolve (offeredVerdict limit t) (found limit t (orderOf t)) (refuse limit)
 

@@ -1,4 +1,4 @@
-// A table put in order: checks 1 to 6 and 17 of it as listed, and then the search.
+// A table put in order: checks 1 to 6 and 17 of it as listed, and then the search (clauses 8.1 and 13.5).
 use crate::refusing::turn_down;
 use crate::search::search;
 use arbiter::admit::check_laid;
@@ -49,7 +49,7 @@ pub fn order_laid(words: &mut [u64]) -> OrderAnswer
     OrderAnswer::Refused(Cause::State(StateRefusal::Unsound))
 }
 
-// The table with its requestors where the search puts them; a refused one comes back all 0. Refused: 1 to 6, 17, 15.
+// The table with its requestors where the search puts them; a refused one comes back all 0. Refused: 1 to 6, 17, 15 (clause 13.5).
 pub fn order(t: Table) -> OrderResult
     ensures { λ r. ⌜ orderResultOf r ≡ order maxPlaces (given t) ⌝ }
 {

@@ -1,5 +1,5 @@
-// The search on words, in place. The first k rows are the list, and behind them stand those that have their place already. N places take
-// at most N * (N + 1) / 2 tests of a need, and no function here calls itself.
+// The search of clause 8.1 on words, in place. The first k rows are the list, and behind them stand those that have their place already. N
+// places take at most N * (N + 1) / 2 tests of a need, and no function here calls itself.
 use crate::refusing::turn_down;
 use admission::figures::finish_is_within;
 use admission::sums::sums_above;

@@ -1,3 +1,3 @@
--- The outcome of an exported call as one number, and that it tells the refusal.
+-- The outcome of an exported call as one number (clause 15.4), and that it tells the refusal.
 pub mod Outcomes
 pub mod Places

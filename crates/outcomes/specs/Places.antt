@@ -1,6 +1,6 @@
--- A refusal of any call has one of the papers' numbers, the cause that goes with it, and a place exactly where it is 3, 4, 5, 7, 16 or 17: one
--- that there is room for. So an outcome tells the refusal; 0 is no refusal, and 255 is none of theirs. What looks at a table that is handed in,
--- what serves a state, an ordering and a chain figure have numbers of their own.
+-- A refusal of any call has a number of section 12, the cause that goes with it, and a place exactly where it is 3, 4, 5, 7, 16 or 17: one
+-- that there is room for. So an outcome (clause 15.4) tells the refusal; 0 is no refusal, and 255 is none of theirs. What looks at a table
+-- that is handed in, what serves a state, an ordering and a chain figure have numbers of their own.
 use mathlib.Core.Path.{_≡_}
 use mathlib.Core.Bool.{Bool, true, false}
 use lib.Dec.{eqb}
@@ -40,11 +40,11 @@ ofATable n = pick (inRange 1 10 n) true (pick (eqb n 12) true (pick (eqb n 14) t
 abbrev pub ofAState : ℕ → Bool
 ofAState n = pick (eqb n 5) true (pick (eqb n 11) true (pick (eqb n 13) true (inRange 21 23 n)))
 
--- of an ordering's: 1 to 6, 8 to 10, 14, 15 and 17; never 7, and none that a state causes
+-- of an ordering's (clause 13.6): 1 to 6, 8 to 10, 14, 15 and 17; never 7, and none that a state causes
 abbrev pub ofAnOrder : ℕ → Bool
 ofAnOrder n = pick (inRange 1 6 n) true (pick (inRange 8 10 n) true (pick (inRange 14 15 n) true (eqb n 17)))
 
--- of a chain figure's: 11, 16 and 23
+-- of a chain figure's (clause 13.12): 11, 16 and 23
 abbrev pub ofAChain : ℕ → Bool
 ofAChain n = pick (eqb n 11) true (pick (eqb n 16) true (eqb n 23))
 
@@ -67,13 +67,14 @@ pub record AmongRefusals (numbers : ℕ → Bool) (limit : ℕ) (r : Refusal) : 
   pub origin : r .origin ≡ originOf (r .number)
   pub place : Below limit (r .place)
 
--- two refusals with one outcome are one refusal, and it is neither 0 nor 255
+-- clause 15.4: two refusals with one outcome are one refusal, and it is neither 0 nor 255
 abbrev pub Code-tells : Type 0
 Code-tells = (limit : ℕ) (r q : Refusal) → AmongRefusals ofAnyCall limit r → AmongRefusals ofAnyCall limit q → refusalCode r ≡ refusalCode q → r ≡ q
 
 abbrev pub Code-apart : Type 0
 Code-apart = (limit : ℕ) (r : Refusal) → AmongRefusals ofAnyCall limit r → (refusalCode r ≡ 0 → ⊥) × (refusalCode r ≡ wrongLength → ⊥)
 
+-- clause 15.4 of each call, from here on
 abbrev pub Start-names-below : Type 0
 Start-names-below =
     (limit : ℕ) (bytes : List ℕ) (first : ℕ) (r : Refusal) → begun limit (readTable limit bytes) first .answer ≡ refused r → AmongRefusals ofATable limit r
@@ -82,7 +83,7 @@ Start-names-below =
 abbrev pub Table-start-names-below : Type 0
 Table-start-names-below = (limit : ℕ) (t : Table) (first : ℕ) (r : Refusal) → start limit t first .answer ≡ refused r → AmongRefusals ofATable limit r
 
--- a carrying over: 23 alone
+-- a carrying over: 23 alone (clause 13.14)
 abbrev pub Carry-names-below : Type 0
 Carry-names-below = (old new : ℕ) (o : OldState) (r : Refusal) → carry old new o .answer ≡ refused r → (r ≡ refusal 23) × AmongRefusals ofAState new r
 
@@ -108,6 +109,7 @@ abbrev pub Write-names-below : Type 0
 Write-names-below =
     (limit : ℕ) (t : Table) (buffer : List ℕ) (r : Refusal) → writing.writeTable limit t buffer .answer ≡ writing.refused r → AmongRefusals ofATable limit r
 
+-- the numbers of clause 13.6
 abbrev pub Orders-name-below : Type 0
 Orders-name-below = (limit : ℕ) (bytes buffer : List ℕ) (r : Refusal) → orderBytes limit bytes buffer .answer ≡ writing.refused r → AmongRefusals ofAnOrder limit r
 

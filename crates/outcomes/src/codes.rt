@@ -7,10 +7,10 @@ ghost use Rattle.terms.specs.Refusals.{refusalOf};
 ghost use Rattle.outcomes.specs.Outcomes.{refusalCode};
 ghost use Rattle.outcomes.specs.Places.{Below};
 
-// Lent words, a lent answer or lent numbers of a wrong length. No refusal of document 01 has this number.
+// A lent length is wrong (clause 12.255). No other refusal has this number.
 pub const WRONG_LENGTH: u64 = 255;
 
-// A refusal: its number in the low 8 bits, and above them the place it names + 1.
+// A refusal: its number in the low 8 bits, and above them the place it names + 1 (clause 15.4).
 pub fn refusal_code(c: Cause) -> u64
     requires { ⌜ Below maxPlaces (refusalOf c .place) ⌝ }
     ensures { λ r. ⌜ r ≡ refusalCode (refusalOf c) ⌝ }

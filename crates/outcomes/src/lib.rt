@@ -1,3 +1,3 @@
-// The outcome of an exported call as one number.
+// The outcome of an exported call as one number (clause 15.4).
 
 pub mod codes;

@@ -23,7 +23,7 @@ pub fn account_words(words: &[u64], place: usize) -> AccountAnswer
     let there = check_place(words, place);
     match there {
         Verdict::Fault(c) => AccountAnswer::Refused(c),
-        Verdict::Faultless => AccountAnswer::Told(account(words, place)),
+        Verdict::Faultless => AccountAnswer::Account(account(words, place)),
     }
 }
 

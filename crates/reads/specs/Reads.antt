@@ -1,6 +1,5 @@
--- What document 01's program slotlist reads of its input: how many bytes its table has, the table, which starts at slot 0, and then for each
--- slot a count for every place, all numbers in groups. What is read comes to a value and the rest of the input, or to a refusal.
--- `limit` is the largest N throughout.
+-- What slotlist reads of its input (clause 14.1), with the checks that come up in it (clause 13.15). What is read comes to a value and the
+-- rest of the input, or to a refusal. `limit` is the largest N throughout.
 use mathlib.Core.List.{List}
 use Prim.Native.Nat.{ℕ}
 use lib.Dec.{leb}
@@ -16,25 +15,25 @@ use Rattle.table_bytes.specs.Reading.{Read, read, stop, next, numberRead, items
 
 -- ---- the beginning
 
--- the table starts at slot 0, or is refused
+-- clause 14.1: the table starts at slot 0, or is refused
 unfoldable pub startRead : ℕ → TableResult → (rest : List ℕ) → Read State
 startRead limit r rest =
     unless (r .answer) stop
     (let started = start limit (r .table) 0 in
     unless (started .answer) stop (read (started .state) rest))
 
--- the table's length, which may not pass the input (8), and so many bytes of table
+-- clauses 12.8 and 14.1: the table's length, which is 8 if it passes the rest, and so many bytes of table
 unfoldable pub stateRead : ℕ → (input : List ℕ) → Read State
 stateRead limit input =
     next (numberRead input) λ size rest.
     pick (leb size (length rest)) (startRead limit (readTable limit (take size rest)) (drop size rest)) (stop (refusal 8))
 
--- "13 is tested first."
+-- clause 13.15: 13 is ahead of all else
 unfoldable pub begun : ℕ → (input : List ℕ) → Read State
 begun limit input = resolve (inputVerdict (length input)) (stateRead limit input) stop
 
 -- ---- a slot
 
--- its N counts, each read from the bytes that the one before it left
+-- clause 14.1: its N counts, each read from the bytes that the one before it left
 abbrev pub countsRead : (n : ℕ) → List ℕ → Read (List ℕ)
 countsRead n bytes = itemsRead (λ p rest. numberRead rest) n 0 bytes

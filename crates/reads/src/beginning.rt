@@ -1,4 +1,4 @@
-// The beginning of the input: its length, the table's length, the table, and a start at slot 0.
+// The beginning of the input (clause 14.1): its length, the table's length, the table, and a start at slot 0.
 use arbiter::input::check_input;
 use arbiter::state::Arbiter;
 use starts::bytes::start_bytes;
@@ -74,7 +74,7 @@ fn begin_table(input: &[u8]) -> BeginResult
     }
 }
 
-// 13 is tested first.
+// Ahead of all else comes 13 (clause 13.15).
 pub fn begin(input: &[u8]) -> BeginResult
     ensures { λ r. ⌜ begunOf (now (input .entry)) r ≡ begun maxPlaces (now (input .entry)) ⌝ }
     ensures there { λ r. ⌜ takenByBeginning (r .beginning) ≤ length (now (input .entry)) ⌝ }

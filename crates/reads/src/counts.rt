@@ -1,4 +1,4 @@
-// The counts of a slot, read from the input.
+// The counts of a slot, read from the input (clause 14.1).
 use arbiter::state::Arbiter;
 use table_bytes::fields::Field;
 use table_bytes::fields::read_value;

@@ -142,7 +142,7 @@ module _ (limit : ℕ) (calls old : List ℕ) (s : State) (n : ℕ) where
       let answered = answers (called limit) s (take i (callsOf calls)) in
       omega (arith, length-words answered, length-answers (called limit) s (take i (callsOf calls)), length-take-le i (callsOf calls) inside)
 
-  -- one call more, on the state that the one before handed back
+  -- one call more, on what its forerunner handed back
   pub standing-more : (words : List ℕ) (state : State) (i : ℕ) (m : Executed) → Standing limit calls old s n words state i → i < n
       → Executes m (called limit state (callOf (getD calls (3 * i) 0) (getD calls (3 * i + 1) 0) (getD calls (3 * i + 2) 0)))
       → Standing limit calls old s n (set (set (set words (3 * i) (m .words .0)) (3 * i + 1) (m .words .1)) (3 * i + 2) (m .words .2)) (held (m .state)) (i + 1)

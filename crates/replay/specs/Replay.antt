@@ -1,6 +1,5 @@
--- A list of calls, given as numbers, made from a start: each call gets the state that the one before handed back. The calls
--- are lent three numbers to a call, and each answer is written as three numbers, so that a caller in any language can read
--- them.
+-- Clause 10.8: a list of calls, given as numbers, made from a start, each on what its forerunner handed back. The calls are lent three
+-- numbers to a call, and each answer is written as three numbers, so that a caller in any language can read them.
 use mathlib.Core.Path.{_≡_}
 use mathlib.Core.List.{List, [], _∷_}
 use Prim.Native.Nat.{ℕ, zero, suc, _/_}
@@ -18,7 +17,7 @@ use Rattle.rule.specs.Calls.{Call, post, slot, called}
 use Rattle.replay.specs.declared.Words.{Words}
 use Rattle.replay.specs.declared.Executed.{Executed}
 
--- a call is three numbers: what it is (0: a slot; anything else: a post), the place, the count; a slot passes over the last two
+-- clause 10.8: a call is three numbers: what it is (0: a slot; else a post), the place, the count; a slot passes over the last two
 unfoldable pub callOf : (what place count : ℕ) → Call
 callOf zero place count = slot
 callOf (suc what) place count = post place count
@@ -30,11 +29,11 @@ callsOf (what ∷ []) = []
 callsOf (what ∷ place ∷ []) = []
 callsOf (what ∷ place ∷ count ∷ calls) = callOf what place count ∷ callsOf calls
 
--- as many calls are made as the lent list of answers has room for
+-- clause 10.8: as many calls are made as the lent list of answers has room for
 unfoldable pub madeCalls : (calls old : List ℕ) → List Call
 madeCalls calls old = take (length old / 3) (callsOf calls)
 
--- an answer is three numbers, and the first says which answer it is; no refusal of a call names a place
+-- clause 10.8: an answer is three numbers, and the first says which answer it is; no refusal of a call names a place
 unfoldable pub answerWords : Answer → List ℕ
 answerWords accepted = 0 ∷ 0 ∷ 0 ∷ []
 answerWords (granted stamp p) = 1 ∷ stamp ∷ p ∷ []
@@ -55,21 +54,21 @@ pub record Replayed : Type 0 where
 abbrev pub afterCalls : State → (words : List ℕ) → Replayed
 afterCalls s words = record { state = s; answer = accepted; words = words }
 
--- the calls from a state, each on the state that the one before handed back
+-- the calls from a state, each on what its forerunner handed back
 unfoldable pub callsFrom : ℕ → State → (calls old : List ℕ) → Replayed
 callsFrom limit s calls old =
     afterCalls
     (end (called limit) s (madeCalls calls old))
     (writtenOver (wordsOf (answers (called limit) s (madeCalls calls old))) old)
 
--- what follows a start: an accepted one the calls; a refused one nothing, and the lent answers are left as they were
+-- what follows a start: an accepted one the calls; a refused one nothing, and the lent answers are left as they were (clause 10.8)
 unfoldable pub continued : ℕ → Result State Answer → (calls old : List ℕ) → Replayed
 continued limit begun calls old =
     unless (begun .answer)
     (λ why. record { state = begun .state; answer = refused why; words = old })
     (callsFrom limit (begun .state) calls old)
 
--- a start and the calls from it; `limit` is the largest N
+-- clause 10.8: a start and the calls from it; `limit` is the largest N
 unfoldable pub replay : ℕ → Table → (first : ℕ) → (calls old : List ℕ) → Replayed
 replay limit t first calls old = continued limit (start limit t first) calls old
 

@@ -1,5 +1,5 @@
-// A start and a list of calls from it, each on the state that the one before handed back. Calls and answers are plain numbers in
-// lists that the caller lends: there is no heap to keep them on, and every language can lend a list of numbers.
+// A start and a list of calls from it (clause 10.8), each on what its forerunner handed back. Calls and answers are plain numbers in lists
+// that the caller lends: there is no heap to keep them on, and every language can lend a list of numbers.
 use arbiter::start::StartResult;
 use arbiter::state::Arbiter;
 use arbiter::table::Table;
@@ -120,10 +120,8 @@ fn execute_calls(s: Arbiter, calls: &[u32], answers: &mut [u64]) -> Arbiter
     state
 }
 
-// A start, and the calls from it, as many as their answers have room for. The state handed back is the one after the calls, and
-// the answer is the start's; a refused start makes no call and writes nothing. A call is three numbers: 0 for a slot or any
-// other for a post, the place, and the count. An answer is three numbers: 0, 0, 0 for accepted; 1, the stamp and the place for
-// granted; 2, the stamp and 0 for idle; 3, the refusal's number and 0 for refused.
+// Clause 10.8: a start, and the calls from it, as many as their answers have room for. The state handed back is the one after the calls,
+// and the answer is the start's; a refused start makes no call and writes nothing.
 pub fn replay(t: Table, first: Slots, calls: &[u32], answers: &mut [u64]) -> StartResult
     ensures { λ r. ⌜ replayedOf r (now (answers .exit)) ≡ replay maxPlaces (given t) (first .0) (now (calls .entry)) (now (answers .entry)) ⌝ }
 {

@@ -1,5 +1,5 @@
--- Demand 3 on numbers: what `replay`'s code wrote on one side, the floor and the ceiling on the other. An answer is three numbers: 1, the
--- stamp and the place for a grant; 2, the stamp and 0 for an idle slot; 0 or 3 in front for what is no slot.
+-- Demand 3 (clauses 10.2 to 10.4) on the numbers of clause 10.8: what `replay`'s code wrote on one side, the floor and the ceiling on the
+-- other.
 use mathlib.Core.Path.{_≡_}
 use mathlib.Core.List.{List, [], _∷_}
 use Prim.Native.Nat.{ℕ, _+_, _*_, _≤_, _<_}
@@ -40,7 +40,7 @@ grantsWrittenToFirst k = threes (λ what stamp place. pick (eqb what 1) (pick (l
 abbrev pub answersWritten : (i m : ℕ) → List ℕ → List ℕ
 answersWritten i m words = take (3 * m) (drop (3 * i) words)
 
--- so counted, the numbers of answers say what the answers say
+-- clause 10.8: so counted, the numbers of answers say what the answers say
 abbrev pub Written-counts : Type 0
 Written-counts =
     (answered : List Answer)
@@ -50,7 +50,7 @@ Written-counts =
 
 -- what a stretch's numbers keep to: `before` leads to the stretch, and `inside` holds its calls
 pub record Kept (t : Table) (first : ℕ) (before inside : List Call) (numbers : List ℕ) : Type 0 where
-  -- they are the rule's answers
+  -- they are the rule's answers (clause 10.2); then clauses 10.4 and 10.3
   pub by-rule : numbers ≡ wordsOf (answers ruled (ruledAfter t first before) inside)
   pub ceiling : (k : ℕ) → 1 ≤ k → k ≤ t .count → Ceiling (t .denominator) (requestorsOf t) k (slotsWritten numbers) (grantsWrittenToFirst k numbers)
   pub floor : (p : ℕ) → p < t .count → Waits p (ruledAfter t first before) inside
@@ -62,9 +62,9 @@ pub record Keeps (t : Table) (first : ℕ) (made : List Call) (state : State) (w
   pub ends : state ≡ ruledAfter t first made
   pub stretch : (i m : ℕ) → i + m ≤ length made → Kept t first (take i made) (take m (drop i made)) (answersWritten i m words)
 
--- The contract of `replay` is the equation here: r is what the code handed back, and `words` what it left in the lent answers. If it
--- answers that it started, the state that it handed back is the rule's, and every stretch of the calls that it made keeps to demand 3 in
--- the numbers that it wrote.
+-- Clause 10.8. The contract of `replay` is the equation here: r is what the code handed back, and `words` what it left in the lent answers.
+-- If it answers that it started, the state that it handed back is the rule's, and every stretch of the calls that it made keeps to demand 3
+-- in the numbers that it wrote.
 abbrev pub Replay-keeps-demand-3 : Type 0
 Replay-keeps-demand-3 =
     (limit : ℕ) (t : Table) (first : ℕ) (calls old : List ℕ) (r : StartResult) (words : List ℕ) → length (t .requestors) ≡ limit

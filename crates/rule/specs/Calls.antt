@@ -1,5 +1,5 @@
--- Posts and slots on a state: what each does and answers, what turns it down, and 23 in front. `ruled` is the rule's own step,
--- which passes over what 11, 21 and 22 turn down; `called` is what the contracts of post and slot say.
+-- Posts and slots on a state: what each does and answers (clauses 5.1 to 5.6), what turns it down, and 23 in front. `ruled` is the rule's
+-- own step, which passes over what 11, 21 and 22 turn down; `called` is what the contracts of post and slot say.
 use Prim.Native.Nat.{ℕ, _+_}
 use lib.Dec.{ltb, leb}
 use lib.ListN.{set}
@@ -18,11 +18,11 @@ pub data Call : Type 0 where
   post : (place count : ℕ) → Call
   slot : Call
 
--- whom a slot grants
+-- whom a slot grants (clause 5.2)
 unfoldable pub grantOf : State → Grant
 grantOf s = firstEligible (s .table .denominator) (requestorsOf (s .table)) (s .accounts)
 
--- the state after a slot that granted g: every account, and of step 5 that the slot number goes up by 1
+-- the state after a slot that granted g: every account, and the slot number of clause 5.6
 unfoldable pub advanced : State → Grant → State
 advanced s g = record {
   table = s .table;
@@ -30,7 +30,7 @@ advanced s g = record {
   accounts = after (s .table .denominator) g (requestorsOf (s .table)) (s .accounts);
 }
 
--- a post raises the backlog of one place by its count, which may be 0
+-- clause 5.1: a post raises the backlog of one place by its count, which may be 0
 unfoldable pub withCount : ℕ → Account → Account
 withCount count a = record { credit = a .credit; backlog = record { 0 = backlog a + count } }
 
@@ -41,7 +41,7 @@ withPost s p count = record {
   accounts = set (s .accounts) p (withCount count (accountAt p (s .accounts)));
 }
 
--- 5. the slot is stamped with the number that it had
+-- the slot is stamped with the number that it had (clause 5.6)
 abbrev pub slotAnswer : ℕ → Grant → Answer
 slotAnswer stamp Nobody = idle stamp
 slotAnswer stamp (Place p) = granted stamp p
@@ -51,21 +51,21 @@ unfoldable pub done : State → Call → Result State Answer
 done s (post p count) = record { state = withPost s p count; answer = accepted }
 done s slot = record { state = advanced s (grantOf s); answer = slotAnswer (s .slot .0) (grantOf s) }
 
--- What turns a call down, tested on the state's own table, q, c and slot number. Post: 11, 21. Slot: 22. 23 is not among them:
--- from an accepted start it never turns a call down (guarantees, CreditSums), so the rule needs no look at it.
+-- What turns a call down. Post: clauses 12.11 and 12.21. Slot: clause 12.22. 23 is not among them: from an accepted start it never turns
+-- a call down (guarantees, CreditSums), so the rule needs no look at it.
 unfoldable pub ruleVerdict : State → Call → Verdict
 ruleVerdict s (post p count) =
     atPlace s p (gate (refusal 21) (leb (backlog (accountAt p (s .accounts)) + count) maxBacklog) faultless)
 ruleVerdict s slot = gate (refusal 22) (ltb (s .slot .0) maxSlot) faultless
 
--- accepted: carried out whole; refused: the state is the one handed in
+-- clause 1.5: accepted, it is carried out whole; refused, the state is the one handed in
 abbrev pub outcome : Verdict → State → Call → Result State Answer
 outcome v s c = resolve v (done s c) (λ r. record { state = s; answer = refused r })
 
--- the rule's own step
+-- the rule's own step (clause 10.2)
 unfoldable pub ruled : State → Call → Result State Answer
 ruled s c = outcome (ruleVerdict s c) s c
 
--- a call with its checks in order, 23 first; `limit` is how many places there is room for
+-- a call (clause 1.4) with its checks in order (clauses 13.7 and 13.8), 23 first; `limit` is how many places there is room for
 unfoldable pub called : ℕ → State → Call → Result State Answer
 called limit s c = outcome (gate (refusal 23) (sound limit s) (ruleVerdict s c)) s c

@@ -1,5 +1,5 @@
--- A grant as one place sees it: whether it names the place, what becomes of the place's account, and how many grants it counts for.
--- The code's loop goes place by place; taken together that is `after` of the rule (proofs/Updates).
+-- A grant as one place sees it: whether it names the place, what becomes of its account (clauses 5.3 to 5.5), and how many grants it counts
+-- for. The code's loop goes place by place; taken together that is `after` of the rule (proofs/Updates).
 use mathlib.Core.Bool.{Bool, false}
 use Prim.Native.Nat.{ℕ}
 use lib.Dec.{ltb, eqb}

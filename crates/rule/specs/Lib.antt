@@ -1,4 +1,4 @@
--- Document 01's rule of a slot, what a post and a slot do to a state, and a run with its log.
+-- The rule of a slot, what a post and a slot do to a state, and a run with its log.
 pub mod Rule
 pub mod Grants
 pub mod Calls

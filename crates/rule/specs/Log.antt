@@ -1,5 +1,5 @@
--- A run over a lent log: a slot for each of its bytes, and into each byte the place that was granted, or 255 where nobody was. It is told
--- slot by slot, each with the part of the log that is still to be written; without a byte there is no slot. Checks: 23, 13, 22.
+-- Clause 6.1: a run over a lent log: a slot for each of its bytes, and into each byte the place that was granted, or 255 where nobody was.
+-- It is told slot by slot, each with the part of the log that is still to be written; without a byte there is no slot.
 use mathlib.Core.List.{List, [], _∷_}
 use Prim.Native.Nat.{ℕ, zero, suc, _+_}
 use lib.Dec.{leb}
@@ -18,7 +18,7 @@ abbrev pub grantByte : Grant → ℕ
 grantByte Nobody = 255
 grantByte (Place p) = p
 
--- the state after so many slots, and their log
+-- the state after so many slots, and their log (clause 6.1)
 unfoldable pub slotsState : ℕ → State → State
 slotsState zero s = s
 slotsState (suc slots) s = slotsState slots (advanced s (grantOf s))
@@ -27,11 +27,11 @@ unfoldable pub slotsLog : ℕ → State → List ℕ
 slotsLog zero s = []
 slotsLog (suc slots) s = grantByte (grantOf s) ∷ slotsLog slots (advanced s (grantOf s))
 
--- check 22 of a run: as many slots as the log has bytes must still have numbers
+-- clause 12.22 of a run: as many slots as the log has bytes must still have numbers
 unfoldable pub slotsVerdict : (first slots : ℕ) → Verdict
 slotsVerdict first slots = gate (refusal 22) (leb (first + slots) maxSlot) faultless
 
--- 23, 13, 22
+-- 23, 13, 22 (clause 13.9)
 unfoldable pub runVerdict : ℕ → State → (bytes : ℕ) → Verdict
 runVerdict limit s bytes =
     gate (refusal 23) (sound limit s)
@@ -43,7 +43,7 @@ pub record Outcome : Type 0 where
   pub answer : Answer
   pub log : List ℕ
 
--- `limit` is how many places there is room for
+-- clause 6.1; `limit` is how many places there is room for
 unfoldable pub run : ℕ → State → (old : List ℕ) → Outcome
 run limit s old =
     resolve (runVerdict limit s (length old))

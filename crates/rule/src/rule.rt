@@ -26,7 +26,7 @@ pub fn is_eligible(d: u64, r: Requestor, a: Account) -> bool
     false
 }
 
-// The account of the granted place.
+// The account of the granted place (clause 5.3).
 pub fn serve(d: u64, r: Requestor, a: Account) -> Account
     requires { ⌜ (a .credit + r .rate < 2 ^ 64) × (eligible d r a ≡ true) ⌝ }
     ensures { λ b. ⌜ b ≡ served d r a ⌝ }
@@ -38,7 +38,7 @@ pub fn serve(d: u64, r: Requestor, a: Account) -> Account
     }
 }
 
-// The account of any other place. Only a place with nothing waiting is capped at its burst.
+// The account of any other place (clauses 5.4 and 5.5).
 pub fn pass(r: Requestor, a: Account) -> Account
     requires { ⌜ a .credit + r .rate < 2 ^ 64 ⌝ }
     ensures { λ b. ⌜ b ≡ passed r a ⌝ }

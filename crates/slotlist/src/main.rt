@@ -1,4 +1,4 @@
-// The program slotlist: it reads its input, takes step after step of the listing, and writes their texts.
+// The program slotlist (section 14): it reads its input, takes step after step of the listing, and writes their texts.
 use arbiter::state::Arbiter;
 use libc::STDIN_FILENO;
 use libc::STDOUT_FILENO;
@@ -11,7 +11,7 @@ ghost use Rattle.terms.specs.Limits.{maxPlaces};
 ghost use Rattle.listing.specs.Room.{lineRoom};
 ghost use Rattle.slotlist.specs.Input.{bytesOf};
 
-// One byte more than the largest input, so that an input that is too long is seen.
+// One byte more than the largest input, so that an input that is too long is seen (clause 12.13).
 const INPUT_ROOM: usize = Arbiter::MAX_INPUT + 1;
 
 // How many bytes were read.

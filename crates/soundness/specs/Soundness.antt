@@ -1,5 +1,5 @@
 -- What one walk over the first n places tests of their rows and accounts: checks 3, 4 and 5, the backlogs, the credit sums, and the rate sum
--- at its end. No call's promise names it: with D, N, the slot number and what lies past place N−1 it is test 23 (`sound`).
+-- at its end. No call's promise names it: with D, N, the slot number and what lies past place N−1 it is test 23 (clause 11.1).
 use mathlib.Core.Bool.{Bool, _&&_}
 use mathlib.Core.List.{List}
 use Prim.Native.Nat.{ℕ}

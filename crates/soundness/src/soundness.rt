@@ -1,4 +1,4 @@
-// Test 23: one walk over the table's places, and then every word past them.
+// Test 23 (clause 11.1): one walk over the table's places, and then every word past them.
 use arbiter::bounds::denominator_bounds;
 use arbiter::rows::fields_hold;
 use arbiter::state::Arbiter;

@@ -1,5 +1,4 @@
--- A table read from its bytes into words: 8, 9 and 1 to 5 number by number, 17 behind each place, then 10. What is checked of the whole table
--- comes after that.
+-- A table read from its bytes into words, with the checks of clause 13.2 up to 10. What is checked of the whole table comes after that.
 use Rattle.terms.specs.declared.refusals.Refusal.{Refusal}
 use Rattle.terms.specs.declared.refusals.Verdict as code
 use Rattle.terms.specs.declared.refusals.Verdict.the-variants as code-verdict

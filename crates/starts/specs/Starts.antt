@@ -1,4 +1,4 @@
--- A start from a table's bytes. A start from a table given as numbers is `start` of terms.
+-- A start from a table's bytes (clause 4.2). A start from a table given as numbers is `start` of terms.
 use Prim.Native.Nat.{ℕ}
 use Rattle.lists.specs.Runs.{Result}
 use Rattle.terms.specs.State.{State}
@@ -6,6 +6,6 @@ use Rattle.terms.specs.Answers.{Answer, unless}
 use Rattle.terms.specs.Start.{start, turnedDown}
 use Rattle.terms.specs.TableResult.{TableResult}
 
--- a start from a table's bytes: the reader's checks, then the start's
+-- clauses 4.2 and 13.3: the reader's checks, then the start's
 unfoldable pub begun : (room : ℕ) → TableResult → (first : ℕ) → Result State Answer
 begun room t first = unless (t .answer) (turnedDown room) (start room (t .table) first)

@@ -1,7 +1,6 @@
--- Document 01, "Table bytes", as they are read: D, N, and for each place its rate, its burst and the two numbers of its need. Each number is
--- read from what the one before it left, 8 or 9 if there is none, and held to its limits, 1 to 5, before the next; a place whose numbers have
--- been read is checked for 17 before the next place (document 02, request 6); then come 10, 6 and 7. A refused reading hands back a table whose
--- every field is 0.
+-- Clauses 3.2, 3.3 and 13.2: a table's bytes as they are read. Each number is read from what the one before it left, 8 or 9 if there is
+-- none, and held to its limits, 1 to 5, before the next; a place whose numbers have been read is checked for 17 before the next place; then
+-- come 10, 6 and 7. A refused reading hands back a table whose every field is 0 (clause 1.6).
 use mathlib.Core.List.{List, [], _∷_}
 use Prim.Native.Nat.{ℕ, zero, suc}
 use lib.Dec.{eqb}
@@ -25,12 +24,12 @@ pub data Read (X : Type 0) : Type 0 where
   read : X → (rest : List ℕ) → Read X
   stop : Refusal → Read X
 
--- what comes next is read from the rest
+-- what comes next is read from the rest (clause 3.3)
 unfoldable pub next : {X Y : Type 0} → Read X → (X → List ℕ → Read Y) → Read Y
 next (read x rest) more = more x rest
 next (stop r) more = stop r
 
--- a number is read: 8, 9
+-- a number is read (clauses 3.2, 12.8 and 12.9)
 abbrev pub readAs : List ℕ → number.Reading → Read ℕ
 readAs bytes (Number x taken) = read x (drop taken bytes)
 readAs bytes Ended = stop (refusal 8)
@@ -43,11 +42,11 @@ numberRead bytes = readAs bytes (numberOf bytes)
 abbrev pub checkedRead : {X : Type 0} → Verdict → X → (rest : List ℕ) → Read X
 checkedRead v x rest = resolve v (read x rest) stop
 
--- a number is read and checked
+-- a number is read and checked (clause 3.3)
 unfoldable pub fieldRead : Bounds → List ℕ → Read ℕ
 fieldRead b bytes = next (numberRead bytes) λ x rest. checkedRead (heldTo b x) x rest
 
--- n, b, j and L of place p
+-- n, b, j and L of place p (clause 13.2)
 unfoldable pub rowFieldsRead : ℕ → ℕ → List ℕ → Read Requestor
 rowFieldsRead d p bytes =
     next (fieldRead (rateBounds d p) bytes) λ n rest.
@@ -56,7 +55,7 @@ rowFieldsRead d p bytes =
     next (fieldRead (withinBounds p) rest) λ l rest.
     read (record { rate = n; burst = b; need = record { 0 = j }; within = record { 0 = l } }) rest
 
--- the row that they are, once it passed 17
+-- the row that they are, once it passed 17 (clauses 3.3 and 13.2)
 unfoldable pub rowRead : ℕ → ℕ → List ℕ → Read Requestor
 rowRead d p bytes = next (rowFieldsRead d p bytes) λ r rest. checkedRead (needFitsVerdict d p r) r rest
 
@@ -79,7 +78,7 @@ placesBy row limit d n bytes = next (itemsRead (row d) n 0 bytes) λ rows rest. 
 abbrev pub placesRead : (limit d n : ℕ) → List ℕ → Read Table
 placesRead limit d n bytes = placesBy rowRead limit d n bytes
 
--- D, N and the places
+-- D, N and the places (clause 3.3)
 unfoldable pub numbersBy : (row : (d p : ℕ) → List ℕ → Read Requestor) → ℕ → List ℕ → Read Table
 numbersBy row limit bytes =
     next (fieldRead denominatorBounds bytes) λ d rest.
@@ -89,11 +88,11 @@ numbersBy row limit bytes =
 abbrev pub numbersRead : ℕ → List ℕ → Read Table
 numbersRead limit bytes = numbersBy rowRead limit bytes
 
--- 10, by what is left behind them
+-- clause 12.10, by what is left behind them
 abbrev pub leftVerdict : (rest : List ℕ) → Verdict
 leftVerdict rest = gate (refusal 10) (eqb (length rest) 0) faultless
 
--- then 10, 6, 7
+-- then 10, 6, 7 (clause 13.2)
 unfoldable pub lastVerdict : Table → (rest : List ℕ) → Verdict
 lastVerdict t rest = then (leftVerdict rest) (then (rateSumVerdict t) (finishesVerdict t))
 
@@ -101,7 +100,7 @@ unfoldable pub settled : ℕ → Read Table → TableResult
 settled limit (read t rest) = resolve (lastVerdict t rest) (accept t) (refuse limit)
 settled limit (stop r) = refuse limit r
 
--- a table from its bytes
+-- a table from its bytes: one table or one refusal (clause 3.6)
 unfoldable pub readTable : ℕ → List ℕ → TableResult
 readTable limit bytes = settled limit (numbersRead limit bytes)
 

@@ -1,5 +1,5 @@
--- Document 01, "Table bytes", as they are written to the start of a lent buffer; what lies behind them stays. The checks are those
--- of a table given as numbers, then 14; a refused writing writes no byte.
+-- Clause 3.5: a table's bytes as they are written to the start of a lent buffer; what lies behind them stays. A refused writing writes no
+-- byte.
 use mathlib.Core.List.{List, _∷_}
 use Prim.Native.Nat.{ℕ}
 use lib.Dec.{leb}
@@ -14,7 +14,7 @@ use Rattle.terms.specs.Figures.{admissionVerdict}
 use Rattle.terms.specs.declared.answers.WriteAnswer as code
 use Rattle.terms.specs.declared.answers.WriteAnswer.the-variants as code-answer
 
--- D, N, and the four numbers of each place
+-- D, N, and the four numbers of each place (clause 3.3)
 unfoldable pub tableNumbers : Table → List ℕ
 tableNumbers t = t .denominator ∷ t .count ∷ joined rowNumbers (requestorsOf t)
 
@@ -22,11 +22,11 @@ tableNumbers t = t .denominator ∷ t .count ∷ joined rowNumbers (requestorsOf
 unfoldable pub tableBytes : Table → List ℕ
 tableBytes t = joined numberBytes (tableNumbers t)
 
--- 14, by the buffer's room
+-- clause 12.14, by the buffer's room
 abbrev pub roomVerdict : Table → (room : ℕ) → Verdict
 roomVerdict t room = gate (refusal 14) (leb (length (tableBytes t)) room) faultless
 
--- the checks of a table given as numbers, then 14
+-- the checks of a table given as numbers, then 14 (clauses 12.14 and 13.4)
 unfoldable pub writeVerdict : ℕ → Table → (room : ℕ) → Verdict
 writeVerdict limit t room = then (admissionVerdict limit t) (roomVerdict t room)
 
@@ -47,7 +47,7 @@ writtenBy v t old =
     (record { answer = wrote (length (tableBytes t)); buffer = writtenOver (tableBytes t) old })
     (λ r. record { answer = refused r; buffer = old })
 
--- a table's bytes into a buffer; `limit` is how many places there is room for
+-- a table's bytes into a buffer (clause 3.5); `limit` is how many places there is room for
 unfoldable pub writeTable : ℕ → Table → (old : List ℕ) → TableWritten
 writeTable limit t old = writtenBy (writeVerdict limit t (length old)) t old
 

@@ -1,4 +1,4 @@
--- What a call answers, in document 01's values. A slot has three ends: a place is granted, nobody is, or the call is refused.
+-- What a call answers. A slot has three ends (clause 5.6): a place is granted, nobody is, or the call is refused.
 use Prim.Native.Nat.{ℕ}
 use Rattle.terms.specs.declared.refusals.Refusal.{Refusal}
 use Rattle.terms.specs.declared.answers.StartAnswer.{StartAnswer}
@@ -41,6 +41,7 @@ abbrev pub postAnswerOf : PostAnswer → Answer
 postAnswerOf post-answer.Accepted = accepted
 postAnswerOf (post-answer.Refused c) = refused (refusalOf c)
 
+-- clause 5.6
 abbrev pub slotAnswerOf : SlotAnswer → Answer
 slotAnswerOf (slot-answer.Granted stamp p) = granted (stamp .0) p
 slotAnswerOf (slot-answer.Idle stamp) = idle (stamp .0)

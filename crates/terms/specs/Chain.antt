@@ -1,5 +1,5 @@
--- Document 02, request 4: places that wait for one another. With the call come names, a number for each place: whom it follows. The chain
--- figure of a place sums finish figures along the chain that ends there. Checks: 23, 11, 16.
+-- Clauses 9.1 to 9.3: places that follow one another. With the call come names, a number for each place: whom it follows. The chain
+-- figure of a place sums finish figures along the chain that ends there.
 use mathlib.Core.Bool.{Bool, true, not}
 use mathlib.Core.List.{List, [], _∷_, _++_}
 use mathlib.Core.Option.{Option, none, some}
@@ -21,11 +21,11 @@ use Rattle.terms.specs.Figures.{finish}
 abbrev pub nobody : ℕ
 nobody = 255
 
--- whom a name stands for
+-- whom a name stands for (clause 9.1)
 unfoldable pub named : ℕ → Option ℕ
 named x = pick (eqb x nobody) none (some x)
 
--- whom place p follows; a place that no name is given for follows nobody
+-- whom place p follows; a place that no name is given for follows nobody (clause 9.1)
 unfoldable pub follows : List ℕ → ℕ → Option ℕ
 follows names p = named (getD names p nobody)
 
@@ -36,15 +36,15 @@ chainTo names zero o = []
 chainTo names (suc most) none = []
 chainTo names (suc most) (some p) = chainTo names most (follows names p) ++ (p ∷ [])
 
--- the chain that ends at place p of a table
+-- the chain that ends at place p of a table (clause 9.2)
 abbrev pub chainOf : Table → List ℕ → ℕ → List ℕ
 chainOf t names p = chainTo names (t .count) (some p)
 
--- the finish figures for one transfer, summed over the links
+-- the finish figures for one transfer, summed over the links (clause 9.2)
 unfoldable pub chainFigure : Table → (links : List ℕ) → ℕ
 chainFigure t links = total (λ p. finish (t .denominator) (requestorsOf t) p 1) links
 
--- check 11 of whom a place follows: if it follows one, that is one of the table's n
+-- clause 12.11 of whom a place follows: if it follows one, that is one of the table's n
 abbrev pub present : (n : ℕ) → Option ℕ → Bool
 present n none = true
 present n (some q) = ltb q n
@@ -52,11 +52,11 @@ present n (some q) = ltb q n
 unfoldable pub nameVerdict : (n : ℕ) → List ℕ → (place : ℕ) → Requestor → Verdict
 nameVerdict n names p r = gate (refusal 11) (present n (follows names p)) faultless
 
--- check 16 of place p: it is no link of the chain that ends at the place it follows
+-- clause 12.16 of place p: it is no link of the chain that ends at the place it follows
 unfoldable pub circleVerdict : (n : ℕ) → List ℕ → (place : ℕ) → Requestor → Verdict
 circleVerdict n names p r = gate (refusalAt 16 p) (every (λ q. not (eqb q p)) (chainTo names n (follows names p))) faultless
 
--- both place by place over the whole table, whatever place was asked for: 11, and then 16 with the lowest such place
+-- both place by place over the whole table (clause 9.3): 11, and then 16 with the lowest such place
 abbrev pub namesVerdict : Table → List ℕ → Verdict
 namesVerdict t names = eachPlace (nameVerdict (t .count) names) 0 (requestorsOf t)
 
@@ -71,6 +71,7 @@ pub data ChainAnswer : Type 0 where
   figured : ℕ → ChainAnswer
   refused : Refusal → ChainAnswer
 
+-- 23, 11, 16 (clause 13.12)
 unfoldable pub chainVerdict : ℕ → State → (place : ℕ) → (names : List ℕ) → Verdict
 chainVerdict limit s p names = then (placeVerdict limit s p) (followingVerdict (s .table) names)
 

@@ -1,4 +1,4 @@
--- Document 01's check 13: neither a log nor the program's input may have more than 65,536 bytes.
+-- Clause 12.13: neither a log nor slotlist's input has more than 65,536 bytes.
 use Prim.Native.Nat.{ℕ}
 use lib.Dec.{leb}
 use Rattle.terms.specs.Limits.{maxInput}

@@ -1,4 +1,4 @@
--- Document 01, "Table and limits": the limits, each named once. `Arbiter::limits` ties each name to the code's constant.
+-- Clause 2.1: the limits, each named once. `Arbiter::limits` ties each name to the code's constant.
 use Prim.Native.Nat.{ℕ}
 
 -- D, the table's common denominator
@@ -34,6 +34,6 @@ maxBacklog = 65535
 abbrev pub maxSlot : ℕ
 maxSlot = 4611686018427387904
 
--- the bytes of a log or of the program's input: of refusal 13, and named here with the others
+-- the bytes of a log or of slotlist's input
 abbrev pub maxInput : ℕ
 maxInput = 65536

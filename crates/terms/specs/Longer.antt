@@ -1,4 +1,4 @@
--- Room for more places: rows and accounts whose every field is 0, put behind a state's own.
+-- Room for more places (clauses 11.4 and 15.2): rows and accounts whose every field is 0, put behind a state's own.
 use mathlib.Core.List.{_++_}
 use Prim.Native.Nat.{ℕ}
 use lib.ListN.{replicate}

@@ -1,5 +1,4 @@
--- Document 01, "Wait, finish and lead", as a call: the reported wait and the finish figure of a place for j transfers. Figures: 23, 11,
--- 5; the 5 names the place that was asked for.
+-- Clause 7.4: the reported wait and the finish figure of a place for j transfers, as a call. Its 5 names the place that was asked for.
 use Prim.Native.Nat.{ℕ}
 use Rattle.terms.specs.declared.refusals.Refusal.{Refusal}
 use Rattle.terms.specs.declared.answers.FiguresAnswer as code
@@ -14,10 +13,11 @@ pub data FiguresAnswer : Type 0 where
   figured : (wait finish : ℕ) → FiguresAnswer
   refused : Refusal → FiguresAnswer
 
+-- 23, 11, 5 (clause 13.11)
 unfoldable pub figuresVerdict : ℕ → State → (place j : ℕ) → Verdict
 figuresVerdict limit s p j = then (placeVerdict limit s p) (heldTo (needBounds p) j)
 
--- `limit` is how many places there is room for
+-- clause 7.4; `limit` is how many places there is room for
 unfoldable pub figures : ℕ → State → (place j : ℕ) → FiguresAnswer
 figures limit s p j =
     resolve (figuresVerdict limit s p j)

@@ -1,5 +1,5 @@
--- Document 01, "Refusals caused by the input" and "Refusals caused by the state", with 15 to 17 of document 02: the number of each
--- refusal, the place that it names, and what caused it; and how a series of checks picks the first fault.
+-- Clauses 12.1 to 12.17 and 12.21 to 12.23: the number of each refusal, the place that it names, and what caused it; and how a series of
+-- checks picks the first fault (clause 1.5).
 use mathlib.Core.Path.{_≡_}
 use mathlib.Core.Bool.{Bool}
 use Prim.Native.Nat.{ℕ}
@@ -18,7 +18,7 @@ use Rattle.terms.specs.declared.refusals.Refusal.{Refusal}
 use Rattle.terms.specs.declared.refusals.Verdict as code
 use Rattle.terms.specs.declared.refusals.Verdict.the-variants as code-verdict
 
--- the number of each refusal that the input causes
+-- the number of each refusal that the input causes (clauses 12.1 to 12.17)
 abbrev pub inputNumber : InputRefusal → ℕ
 inputNumber input.Denominator = 1
 inputNumber input.Count = 2
@@ -58,13 +58,13 @@ inputPlace input.NoOrder = named.None
 inputPlace (input.Circle p) = named.Place p
 inputPlace (input.NeedAboveBurst p) = named.Place p
 
--- the number of each refusal that the state causes
+-- the number of each refusal that the state causes (clauses 12.21 to 12.23)
 abbrev pub stateNumber : StateRefusal → ℕ
 stateNumber state.BacklogLimit = 21
 stateNumber state.SlotLimit = 22
 stateNumber state.Unsound = 23
 
--- the papers' number, place and cause of each case of the code's enum
+-- number, place and cause of each case of the code's enum
 abbrev pub refusalOf : Cause → Refusal
 refusalOf (cause.Input i) = record { number = inputNumber i; place = inputPlace i; origin = origin.Input }
 refusalOf (cause.State s) = record { number = stateNumber s; place = named.None; origin = origin.State }
@@ -73,7 +73,7 @@ refusalOf (cause.State s) = record { number = stateNumber s; place = named.None;
 abbrev pub originOf : ℕ → Origin
 originOf n = pick (inRange 21 29 n) origin.State origin.Input
 
--- so a cause is the state's exactly when its number is 21 to 29
+-- so a cause is the state's exactly when its number is 21 to 29 (clause 1.5)
 abbrev pub Cause-by-number : Type 0
 Cause-by-number = (c : Cause) → refusalOf c .origin ≡ originOf (refusalOf c .number)
 
@@ -89,16 +89,16 @@ pub data Verdict : Type 0 where
   faultless : Verdict
   fault : Refusal → Verdict
 
--- the code's verdict in document 01's values
+-- the code's verdict in these values
 abbrev pub verdictOf : code.Verdict → Verdict
 verdictOf code-verdict.Faultless = faultless
 verdictOf (code-verdict.Fault c) = fault (refusalOf c)
 
--- refused unless the test passes; if it passes, what the rest finds
+-- refused unless the test passes; if it passes, what the rest finds (clause 1.5)
 unfoldable pub gate : Refusal → Bool → Verdict → Verdict
 gate r test rest = pick test rest (fault r)
 
--- one series of checks, and after it another
+-- one series of checks, and after it another (clause 1.5)
 unfoldable pub then : Verdict → Verdict → Verdict
 then faultless rest = rest
 then (fault r) rest = fault r

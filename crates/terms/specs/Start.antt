@@ -1,5 +1,5 @@
--- A start makes a state of a table and the number of its first slot: every place has its burst for credit, and nothing waits. Its checks
--- are those of a table given as numbers, then 12; a refused start hands back a state whose every field is 0.
+-- Clause 4.1: a start makes a state of a table and the number of its first slot: every place has its burst for credit, and nothing waits.
+-- With its checks, and the state that a refused start hands back.
 use mathlib.Core.List.{map}
 use Prim.Native.Nat.{ℕ}
 use lib.Dec.{leb}
@@ -19,11 +19,11 @@ use Rattle.terms.specs.Figures.{admissionVerdict}
 abbrev pub fresh : Requestor → Account
 fresh r = record { credit = r .burst; backlog = record { 0 = 0 } }
 
--- the state of an accepted start
+-- the state of an accepted start (clause 4.1)
 unfoldable pub opening : Table → ℕ → State
 opening t first = record { table = t; slot = record { 0 = first }; accounts = map fresh (t .requestors) }
 
--- the state whose every field is 0
+-- the state whose every field is 0 (clause 1.6)
 unfoldable pub noState : ℕ → State
 noState limit = record { table = noTable limit; slot = record { 0 = 0 }; accounts = replicate limit noAccount }
 
@@ -31,11 +31,11 @@ noState limit = record { table = noTable limit; slot = record { 0 = 0 }; account
 abbrev pub turnedDown : ℕ → Refusal → Result State Answer
 turnedDown limit r = record { state = noState limit; answer = refused r }
 
--- the checks of a table given as numbers, then 12
+-- the checks of a table given as numbers, then 12 (clauses 12.12 and 13.3)
 unfoldable pub startVerdict : ℕ → Table → ℕ → Verdict
 startVerdict limit t first = then (admissionVerdict limit t) (gate (refusal 12) (leb first maxSlot) faultless)
 
--- start; `limit` is how many places there is room for: by value the largest N
+-- clause 4.1; `limit` is how many places there is room for: by value the largest N
 unfoldable pub start : ℕ → Table → ℕ → Result State Answer
 start limit t first =
     resolve (startVerdict limit t first)

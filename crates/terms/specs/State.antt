@@ -1,4 +1,4 @@
--- The arbiter's state, and document 01's test 23, whether it breaks a rule.
+-- The arbiter's state (clause 1.4), and test 23, whether it is sound (clause 11.1).
 use mathlib.Core.Path.{_≡_}
 use mathlib.Core.Bool.{Bool, true, false, _&&_}
 use mathlib.Core.List.{List}
@@ -13,7 +13,7 @@ use Rattle.terms.specs.Limits.{maxBacklog, maxSlot}
 use Rattle.terms.specs.Refusals.{Verdict, faultless, refusal, gate, resolve}
 use Rattle.terms.specs.Table.{Table, burst, tableVerdict}
 
--- the table, the present slot number and the account of each place
+-- the table, the present slot number and the account of each place (clause 1.4)
 pub record State : Type 0 where
   pub table : Table
   pub slot : Slots
@@ -45,7 +45,7 @@ pub record Shaped (limit : ℕ) (s : State) : Type 0 where
   pub rows : length (s .table .requestors) ≡ limit
   pub accounts : length (s .accounts) ≡ limit
 
--- the credits of the first k places sum to at most their bursts
+-- the credits of the first k places sum to at most their bursts (clause 5.8)
 abbrev pub creditsHold : List Requestor → List Account → ℕ → Bool
 creditsHold rs accounts k = leb (total credit (take k accounts)) (total burst (take k rs))
 
@@ -56,7 +56,7 @@ isFaultless v = resolve v true (λ r. false)
 unfoldable pub accountsHold : ℕ → List Requestor → List Account → Bool
 accountsHold n rs accounts = every backlogFits (take n accounts) && upTo n (creditsHold rs accounts)
 
--- the state breaks no rule; `limit` is how many places there is room for
+-- the state breaks no rule (clauses 11.1 and 12.23); `limit` is how many places there is room for
 unfoldable pub sound : ℕ → State → Bool
 sound limit s =
     isFaultless (tableVerdict limit (s .table))
@@ -64,10 +64,10 @@ sound limit s =
     && (accountsHold (s .table .count) (s .table .requestors) (s .accounts)
     && every accountClear (drop (s .table .count) (s .accounts))))
 
--- check 11: the place is one of the table's, and then what follows
+-- clause 12.11: the place is one of the table's, and then what follows
 abbrev pub atPlace : State → (place : ℕ) → Verdict → Verdict
 atPlace s p next = gate (refusal 11) (ltb p (s .table .count)) next
 
--- what every query about a place is checked for first: 23, then 11
+-- what every query about a place is checked for first: clause 12.23, then clause 12.11
 unfoldable pub placeVerdict : ℕ → State → (place : ℕ) → Verdict
 placeVerdict limit s p = gate (refusal 23) (sound limit s) (atPlace s p faultless)

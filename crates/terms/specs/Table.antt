@@ -1,5 +1,5 @@
--- Document 01, "Table and limits", and its checks 1 to 6. 3, 4 and 5 look at one row, and all three at a place ahead of the next place. Where a
--- table asks to be admitted they are followed there by 17 (document 02, request 6).
+-- The table (clauses 2.1 to 2.3, 2.5 and 2.6) and its checks 1 to 6 (clauses 12.1 to 12.6): 3, 4 and 5 look at one row, and all three at a
+-- place ahead of the next place. Where a table asks to be admitted they are followed there by 17.
 use mathlib.Core.Bool.{Bool, _&&_}
 use mathlib.Core.List.{List, [], _∷_}
 use Prim.Native.Nat.{ℕ, suc, _*_}
@@ -28,7 +28,7 @@ rate r = r .rate
 abbrev pub burst : Requestor → ℕ
 burst r = r .burst
 
--- a row past place N−1: every field is 0
+-- a row past place N−1: every field is 0 (clause 2.6)
 abbrev pub noRequestor : Requestor
 noRequestor = record { rate = 0; burst = 0; need = record { 0 = 0 }; within = record { 0 = 0 } }
 
@@ -51,7 +51,7 @@ requestorsOf t = take (t .count) (t .requestors)
 unfoldable pub tableOf : ℕ → ℕ → ℕ → List Requestor → Table
 tableOf limit d n rows = record { denominator = d; count = n; requestors = writtenOver rows (replicate limit noRequestor) }
 
--- the table whose every field is 0
+-- the table whose every field is 0 (clause 1.6)
 abbrev pub noTable : ℕ → Table
 noTable limit = tableOf limit 0 0 []
 
@@ -61,7 +61,7 @@ pub record Bounds : Type 0 where
   pub high : ℕ
   pub outside : Refusal
 
--- check 1; check 2 of N itself; and checks 3, 4 and 5, the last of j and of L, at place p
+-- clause 12.1; clause 12.2 of N itself; and clauses 12.3 to 12.5, the last of j and of L, at place p
 abbrev pub denominatorBounds : Bounds
 denominatorBounds = record { low = 1; high = maxDenominator; outside = refusal 1 }
 
@@ -84,11 +84,11 @@ withinBounds p = record { low = 1; high = maxWithin; outside = refusalAt 5 p }
 unfoldable pub heldTo : Bounds → ℕ → Verdict
 heldTo b x = gate (b .outside) (inRange (b .low) (b .high) x) faultless
 
--- the code's bounds in document 01's values
+-- the code's bounds in these values
 abbrev pub boundsOf : code.Bounds → Bounds
 boundsOf b = record { low = b .low; high = b .high; outside = refusalOf (cause.Input (b .outside)) }
 
--- checks 3, 4 and 5 of the requestor at place p: each field within its limits
+-- checks 3, 4 and 5 of the requestor at place p, in the order of clause 13.1
 unfoldable pub fieldsVerdict : ℕ → ℕ → Requestor → Verdict
 fieldsVerdict d p r =
     then (heldTo (rateBounds d p) (r .rate))
@@ -96,14 +96,14 @@ fieldsVerdict d p r =
     (then (heldTo (needBounds p) (r .need .0))
     (heldTo (withinBounds p) (r .within .0))))
 
--- check 17 of it: its j transfers, D each, fit its burst
+-- clauses 2.3 and 12.17 of it: its j transfers, D each, fit its burst
 unfoldable pub needFits : ℕ → Requestor → Bool
 needFits d r = leb (r .need .0 * d) (r .burst)
 
 unfoldable pub needFitsVerdict : ℕ → ℕ → Requestor → Verdict
 needFitsVerdict d p r = gate (refusalAt 17 p) (needFits d r) faultless
 
--- what is checked of it in a state's table; and where a table asks to be admitted
+-- what is checked of it in a state's table; and where a table asks to be admitted (clause 13.1)
 abbrev pub stateRowVerdict : ℕ → ℕ → Requestor → Verdict
 stateRowVerdict d p r = fieldsVerdict d p r
 
@@ -115,11 +115,11 @@ unfoldable pub eachPlace : (ℕ → Requestor → Verdict) → ℕ → List Requ
 eachPlace check p [] = faultless
 eachPlace check p (r ∷ rs) = then (check p r) (eachPlace check (suc p) rs)
 
--- the part of check 2 that looks past place N−1
+-- the part of clause 12.2 that looks past place N−1
 unfoldable pub tailVerdict : Table → Verdict
 tailVerdict t = gate (refusal 2) (every requestorClear (drop (t .count) (t .requestors))) faultless
 
--- check 6
+-- clauses 2.2 and 12.6
 unfoldable pub rateSumVerdict : Table → Verdict
 rateSumVerdict t = gate (refusal 6) (leb (total rate (requestorsOf t)) (t .denominator)) faultless
 
@@ -127,7 +127,7 @@ rateSumVerdict t = gate (refusal 6) (leb (total rate (requestorsOf t)) (t .denom
 abbrev pub needsFitVerdict : Table → Verdict
 needsFitVerdict t = eachPlace (needFitsVerdict (t .denominator)) 0 (requestorsOf t)
 
--- 1, 2, then what is checked of each row, and then 6; `limit` is how many places there is room for
+-- clause 13.1: 1, 2, then what is checked of each row, and then 6; `limit` is how many places there is room for
 unfoldable pub verdictBy : (row : (d p : ℕ) → Requestor → Verdict) → ℕ → Table → Verdict
 verdictBy row limit t =
     then (heldTo denominatorBounds (t .denominator))
@@ -136,10 +136,10 @@ verdictBy row limit t =
     (then (eachPlace (row (t .denominator)) 0 (requestorsOf t))
     (rateSumVerdict t))))
 
--- checks 1 to 6: those of a state's table, in test 23
+-- checks 1 to 6: those of a state's table, in test 23 (clause 2.5)
 abbrev pub tableVerdict : ℕ → Table → Verdict
 tableVerdict limit t = verdictBy stateRowVerdict limit t
 
--- and with 17 among them: those of a table that asks to be admitted, ahead of 7
+-- and with 17 among them: those of a table that asks to be admitted, ahead of 7 (clause 2.5)
 abbrev pub offeredVerdict : ℕ → Table → Verdict
 offeredVerdict limit t = verdictBy offeredRowVerdict limit t

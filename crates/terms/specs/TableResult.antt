@@ -1,4 +1,4 @@
--- What a call that hands back a table comes to: the table, and its answer. A refused one hands back a table whose every field is 0.
+-- What a call that hands back a table comes to: the table, all 0 if the call is refused (clause 1.6), and its answer.
 use Prim.Native.Nat.{ℕ}
 use Rattle.terms.specs.declared.refusals.Refusal.{Refusal}
 use Rattle.terms.specs.Table.{Table, noTable}

@@ -50,7 +50,7 @@ pub enum LeadAnswer {
 
 // The credit and the backlog of a place.
 pub enum AccountAnswer {
-    Told(Account),
+    Account(Account),
     Refused(Cause),
 }
 

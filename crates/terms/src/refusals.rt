@@ -2,7 +2,7 @@
 ghost use mathlib.Core.Path.{_≡_};
 ghost use Rattle.terms.specs.Refusals.{inputNumber, inputPlace, stateNumber, refusalOf, verdictOf, then};
 
-// Refusals 1 to 17. Those that name a place hold it.
+// Clauses 12.1 to 12.17. Those that name a place hold it.
 pub enum InputRefusal {
     Denominator,
     Count,
@@ -23,7 +23,7 @@ pub enum InputRefusal {
     NeedAboveBurst(usize),
 }
 
-// Refusals 21 to 23.
+// Clauses 12.21 to 12.23.
 pub enum StateRefusal {
     BacklogLimit,
     SlotLimit,
@@ -42,13 +42,13 @@ pub enum Named {
     Place(usize),
 }
 
-// Document 01's cause of a refusal.
+// What caused a refusal (clause 1.5).
 pub enum Origin {
     Input,
     State,
 }
 
-// A refusal in document 01's values: its number, the place it names, and what caused it.
+// A refusal: its number, the place it names, and what caused it.
 pub struct Refusal {
     pub number: u32,
     pub place: Named,
@@ -130,7 +130,7 @@ pub fn first_fault(a: Verdict, b: Verdict) -> Verdict
 }
 
 impl Cause {
-    // The refusal in document 01's values.
+    // Its number, the place it names, and what caused it.
     pub fn refusal(self) -> Refusal
         ensures { λ r. ⌜ r ≡ refusalOf self ⌝ }
     {

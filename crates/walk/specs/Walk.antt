@@ -1,5 +1,5 @@
--- A slot in place. What it grants and leaves is the rule's (rule/Rule) on the state that the words are; here stands what it asks of words,
--- and the accounts on which only the places from some place on had their turn.
+-- A slot in place. What it grants and leaves is the rule's (clauses 5.2 to 5.5) on the state that the words are; here stands what it asks
+-- of words, and the accounts on which only the places from some place on had their turn.
 use mathlib.Core.List.{List, [], _∷_}
 use Prim.Native.Nat.{ℕ, zero, suc, _+_, _≤_, _<_, _^_}
 use mathlib.Core.Path.{_≡_}

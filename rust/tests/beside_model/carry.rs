@@ -1,5 +1,5 @@
-//! Change request 5: words that a unit of the old limit kept. The exported function, the wrapper and the model make the same of them in every
-//! room, and a line that is carried over runs on as it would have.
+//! Words that a unit of the old limit kept. The exported function, the wrapper and the model make the same of them in every room
+//! (clause 11.4), and a line that is carried over runs on as it would have (clause 11.5).
 
 use justrave::{sys, Arbiter, Slots};
 
@@ -126,7 +126,7 @@ const fn at(place: usize, word: usize) -> usize {
     3 + 6 * place + word
 }
 
-/// Table T of document 01 in old words for so many places; slot 70 comes next, and three transfers wait at place 0.
+/// Table T in old words for so many places; slot 70 comes next, and three transfers wait at place 0.
 fn old_t(room: usize) -> Vec<u64> {
     let mut words = vec![4, 2, 70, 1, 8, 1, 4, 5, 3, 1, 4, 1, 7, 3, 0];
     words.resize(at(room, 0), 0);

@@ -1,5 +1,5 @@
-//! Change request 4: places that follow one another. The chain figure beside the model's, in every way in which a few places can do so, and
-//! held to what it promises on lines on which everybody else does as they like.
+//! Places that follow one another. The chain figure beside the model's, in every way in which a few places can do so (clauses 9.1 to 9.3),
+//! and held to what it promises on lines on which everybody else does as they like (clause 9.4).
 
 use std::iter::successors;
 
@@ -395,8 +395,8 @@ fn run_one(chance: &mut Chance, runs: &mut Runs) {
     assert_eq!(line.chain(place, &follows), Ok(Slots(figure)), "the figure is the table's");
 }
 
-/// Display and handset follow the probe: on lines that others flood, the last link of a chain is granted within the figure. No credit is
-/// asked of the links. A chain of one link often takes all of the figure; with more, the later ones save credit up while the first wait.
+/// Clause 9.4: on lines that others flood, the last link of a chain is granted within the figure. No credit is asked of the links. A chain
+/// of one link often takes all of the figure; with more, the later ones save credit up while the first wait.
 #[test]
 fn the_last_link_is_granted_within_the_figure() {
     let mut chance = Chance::of("chains that are carried out");
@@ -407,8 +407,8 @@ fn the_last_link_is_granted_within_the_figure() {
     runs.expect();
 }
 
-/// Table T of document 01 with three transfers at place 0: the third is granted in slot 3 and leaves no credit. The next one takes all of
-/// the figure, 4 slots.
+/// Table T with three transfers at place 0: the third is granted in slot 3 and leaves no credit. The next one takes all of the figure, 4
+/// slots.
 #[test]
 fn a_figure_that_is_taken_whole() {
     let mut line = Arbiter::start(&[4, 2, 1, 8, 1, 4, 1, 4, 1, 7], Slots(0)).expect("the table is accepted");

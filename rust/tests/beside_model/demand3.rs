@@ -1,5 +1,5 @@
-//! Demand 3 and the need, seen from outside: lists of posts and slots from accepted starts, refused ones among them. Grants are the
-//! product's answers; backlogs and credits are the model's, which is told the same calls.
+//! Clauses 5.7 to 5.10 and 10.1 to 10.5, seen from outside: lists of posts and slots from accepted starts, refused ones among them. Grants
+//! are the product's answers; backlogs and credits are the model's, which is told the same calls.
 
 use justrave::{Arbiter, SlotAnswer, Slots, Transfers};
 
@@ -75,7 +75,7 @@ impl Seen {
         assert_eq!(granted, by_the_rule);
     }
 
-    /// At every moment credits sum to at most the bursts, and nothing is lost.
+    /// Clauses 5.8 and 5.10.
     fn check_moment(&self) {
         let (mut credits, mut bursts) = (0, 0);
         for place in 0..self.places() {
@@ -106,7 +106,7 @@ struct Bites {
 }
 
 impl Bites {
-    /// R D g is at least n (R L - B), in every stretch that p enters with credit for a transfer and waits through.
+    /// The floor of clause 10.3, in every stretch from here that the place enters with credit for a transfer and waits through.
     fn floor(&mut self, seen: &Seen, place: usize, from: usize) {
         let (table, row) = (&seen.table, &seen.table.requestors[place]);
         let (left, above) = (table.rate_left(place), table.bursts_above(place));
@@ -125,7 +125,7 @@ impl Bites {
         }
     }
 
-    /// D times the grants to the first k is at most their bursts and L times their rates, in every stretch.
+    /// The ceiling of clause 10.4, in every stretch from here.
     fn ceiling(&mut self, seen: &Seen, k: usize, from: usize) {
         let first = &seen.table.used()[..k];
         let bursts: u64 = first.iter().map(|row| row.burst).sum();
@@ -139,7 +139,7 @@ impl Bites {
         }
     }
 
-    /// j transfers that wait together, entered with credit at least D, are all granted within L slots.
+    /// The need of clause 10.5, looked at where the place has credit for a transfer.
     fn need(&mut self, seen: &Seen, place: usize, from: usize) {
         let row = &seen.table.requestors[place];
         let entered = seen.moments[from].before[place];
@@ -213,7 +213,7 @@ fn floor_ceiling_and_need() {
     assert!(bites.floor > 10_000 && bites.ceiling > 1_000 && bites.need > 1_000);
 }
 
-/// Change request 5: the same on lines of more places than the old limit allowed.
+/// The same on lines of more places than the old limit allowed.
 #[test]
 fn floor_ceiling_and_need_of_many_places() {
     let mut chance = Chance::of("many places");
@@ -227,7 +227,7 @@ fn floor_ceiling_and_need_of_many_places() {
     assert!(bites.floor > 1_000 && bites.ceiling > 100 && bites.need > 10);
 }
 
-/// Change request 2: the bounds of a table that an order made are those of its own places.
+/// Clause 8.4: the bounds of a table that an order made are those of its own places.
 #[test]
 fn floor_ceiling_and_need_of_an_ordered_table() {
     let mut chance = Chance::of("an ordered table");
@@ -245,7 +245,7 @@ fn floor_ceiling_and_need_of_an_ordered_table() {
     assert!(moved > 10 && bites.floor > 1_000 && bites.ceiling > 100 && bites.need > 100);
 }
 
-/// The list runs up against the last slot number, and goes on with refused slots.
+/// Clause 5.7: the list runs up against the last slot number, and goes on with refused slots.
 #[test]
 fn lists_at_the_last_slot() {
     let mut chance = Chance::of("the last slot");
@@ -272,7 +272,7 @@ fn grants_down_to(k: usize, table: Table, above: &[Vec<(usize, u64)>], chance: &
     seen.moments.iter().map(|moment| moment.granted.filter(|&place| place <= k)).collect()
 }
 
-/// Posts below a place change nothing for it and those above.
+/// Clause 5.9: posts below a place change nothing for it and those above.
 #[test]
 fn isolation() {
     let mut chance = Chance::of("isolation");

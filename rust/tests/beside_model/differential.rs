@@ -143,8 +143,8 @@ fn other_numbers<const ROOM: usize>(mut table: Table<ROOM>, at: usize) -> Vec<u6
         .collect()
 }
 
-/// All bytes of length 0 to 2; and the neighbours of table T of document 01, or of its first place where there is room for one. So too with
-/// two transfers for its first need, which the burst just holds.
+/// All bytes of length 0 to 2; and the neighbours of table T, or of its first place where there is room for one. So too with two transfers
+/// for its first need, which the burst just holds.
 fn every_short_input_and_every_neighbour_of_a_table<const ROOM: usize>() {
     let mut tally = Tally::default();
     for first in 0..=255 {
@@ -199,7 +199,7 @@ fn hold_restart<const ROOM: usize>(
     tally.add("restart", &told);
 }
 
-/// From an accepted start a state never breaks a rule, whatever is called: no call comes to 23.
+/// Clause 11.2: after an accepted start no call comes to 23, whatever is called.
 fn lists_of_calls_from_a_start<const ROOM: usize>() {
     let (mut chance, mut tally) = begin::<ROOM>("lists");
     for _ in 0..rounds_in::<ROOM>(1_500) {
@@ -212,7 +212,7 @@ fn lists_of_calls_from_a_start<const ROOM: usize>() {
     tally.expect("write", &[0, 14]);
 }
 
-/// States that pass 23 are served by the rule, whoever made them; their tables may fail 7 and 17.
+/// Sound states (clause 11.1) are served by the rule, whoever made them; their tables may fail 7 and 17.
 fn states_that_no_start_made<const ROOM: usize>() {
     let (mut chance, mut tally) = begin::<ROOM>("invented states");
     for _ in 0..rounds_in::<ROOM>(4_000) {
@@ -259,7 +259,7 @@ fn each_word_by_itself<const ROOM: usize>() {
     tally.expect("slot", &[0, 22, 23]);
 }
 
-/// Long runs with posts in between, and the same slots one by one.
+/// Clause 6.2: long runs with posts in between, and the same slots one by one.
 fn long_runs<const ROOM: usize>() {
     let (mut chance, mut tally) = begin::<ROOM>("long runs");
     for _ in 0..rounds_in::<ROOM>(6) {

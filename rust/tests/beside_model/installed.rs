@@ -1,5 +1,5 @@
-//! Change request 1, seen from outside: a table whose needs have just the slots of the former finish figure still starts, if its bursts hold its
-//! needs as request 6 asks, and one slot below the present figure a table is refused 7.
+//! Clauses 2.4 and 7.5, seen from outside: a table whose needs have just the slots of the former finish figure still starts, if its bursts
+//! hold its needs (clause 2.3), and one slot below the present figure a table is refused 7.
 
 use justrave::{Arbiter, Slots, Transfers};
 
@@ -7,7 +7,7 @@ use crate::model::Table;
 use crate::support::chance::{rounds, Chance};
 use crate::support::tables;
 
-/// The wait and the time of the transfers, each rounded up by itself.
+/// The finish figure before request 1: the wait and the time of the transfers, each rounded up by itself.
 fn former_finish(table: &Table, place: usize) -> u64 {
     let row = &table.requestors[place];
     table.wait(place) + (row.need * table.denominator).div_ceil(row.rate)

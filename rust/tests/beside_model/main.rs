@@ -1,4 +1,4 @@
-//! The product beside a plain Rust model of document 01. JUSTRAVE_SEED sets the seed, which each test prints; JUSTRAVE_ROUNDS makes
+//! The product beside a plain Rust model of the specification. JUSTRAVE_SEED sets the seed, which each test prints; JUSTRAVE_ROUNDS makes
 //! the tests so many times as long.
 
 mod carry;

@@ -1,5 +1,5 @@
-//! Change request 6: a need that is larger than its burst. Whatever takes a table turns it down with 17 and the place, and so does the
-//! writer; a state that has one is served by every other call, and carried over.
+//! Needs above their bursts (clauses 2.3 and 12.17). Whatever takes a table turns one down with 17 and the place, and so does the writer; a
+//! state that has one is served by every other call, and carried over (clause 11.5).
 
 use justrave::{Arbiter, Slots};
 

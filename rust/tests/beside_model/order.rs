@@ -1,4 +1,4 @@
-//! Change request 2: requestors listed in any order, put in places by the product and by the model's rule, and where they are few held
+//! Requestors listed in any order (clauses 8.1 to 8.3), put in places by the product and by the model's rule, and where they are few held
 //! to every order that there is.
 
 use justrave::{sys, Arbiter, Slots};
@@ -17,32 +17,32 @@ const ROOM: usize = Arbiter::TABLE_ROOM;
 
 /// All that an order leaves behind: its refusal, the answer's word and the buffer.
 #[derive(Debug, PartialEq)]
-struct Told {
+struct Output {
     outcome: Result<(), Turned>,
     answer: u64,
     buffer: Vec<u8>,
 }
 
-fn by_product(bytes: &[u8], room: usize) -> Told {
+fn by_product(bytes: &[u8], room: usize) -> Output {
     let (mut buffer, mut answer) = (vec![UNTOUCHED; room], [UNTOUCHED_WORD]);
     let (to, length) = (answer.as_mut_ptr(), answer.len());
     // SAFETY: all three have their lengths behind them, and what is written is of this function.
     let outcome =
         unsafe { sys::justrave_order(bytes.as_ptr(), bytes.len(), buffer.as_mut_ptr(), buffer.len(), to, length) };
-    Told { outcome: answer_of(outcome).map_err(turned_by_product), answer: answer[0], buffer }
+    Output { outcome: answer_of(outcome).map_err(turned_by_product), answer: answer[0], buffer }
 }
 
 /// Through the wrapper, which hands out no answer where it is refused.
-fn by_wrapper(bytes: &[u8], room: usize) -> Told {
+fn by_wrapper(bytes: &[u8], room: usize) -> Output {
     let mut buffer = vec![UNTOUCHED; room];
     let told = justrave::order(bytes, &mut buffer).map_err(turned_by_product);
-    Told { answer: told.map_or(UNTOUCHED_WORD, |length| length as u64), outcome: told.map(|_| ()), buffer }
+    Output { answer: told.map_or(UNTOUCHED_WORD, |length| length as u64), outcome: told.map(|_| ()), buffer }
 }
 
-fn by_model(bytes: &[u8], room: usize) -> Told {
+fn by_model(bytes: &[u8], room: usize) -> Output {
     let mut buffer = vec![UNTOUCHED; room];
     let told = model::order(bytes, &mut buffer).map_err(turned_by_model);
-    Told { answer: told.map_or(UNTOUCHED_WORD, |length| length as u64), outcome: told.map(|_| ()), buffer }
+    Output { answer: told.map_or(UNTOUCHED_WORD, |length| length as u64), outcome: told.map(|_| ()), buffer }
 }
 
 /// What both tell of some bytes and a buffer of this length: the ordered table's bytes, or the number of the refusal.
@@ -51,7 +51,7 @@ fn order(bytes: &[u8], room: usize, tally: &mut Tally) -> Result<Vec<u8>, u8> {
     assert_eq!(product, model, "order of {bytes:02X?} into {room} bytes: product (left) and model");
     assert_eq!(by_wrapper(bytes, room), model, "order of {bytes:02X?} into {room} bytes: wrapper (left) and model");
     tally.add("order", &product.outcome);
-    let Told { outcome, answer, buffer } = product;
+    let Output { outcome, answer, buffer } = product;
     outcome.map(|()| buffer[..answer as usize].to_vec()).map_err(|turned| turned.0)
 }
 
@@ -86,8 +86,8 @@ fn lists_of_every_kind() {
     tally.expect("order", &[0, 1, 2, 3, 4, 5, 6, 8, 9, 10, 14, 15, 17]);
 }
 
-/// All bytes of length 0 to 2; and the neighbours of table T of document 01, listed the wrong way round. So too with two transfers for the
-/// need at the end of the list, which the burst just holds.
+/// All bytes of length 0 to 2; and the neighbours of table T, listed the wrong way round. So too with two transfers for the need at the end
+/// of the list, which the burst just holds.
 #[test]
 fn every_short_input_and_every_neighbour_of_a_list() {
     let mut tally = Tally::default();

@@ -1,5 +1,5 @@
-//! More room changes no answer: words with zeros put behind them, up to those of a larger room, are told the same by every call and stay
-//! the same with zeros behind them. A start is the same in every room that its table fits, and in any other is refused 2.
+//! Clause 15.2: words with zeros put behind them, up to those of a larger room, are told the same by every call and stay the same with
+//! zeros behind them. A start is the same in every room that its table fits, and in any other is refused 2.
 
 use justrave::{Arbiter, Slots};
 

@@ -1,4 +1,4 @@
-//! What slotlist prints, as values.
+//! What slotlist prints (clauses 14.2 and 14.3), as values.
 
 #[derive(Debug, PartialEq)]
 pub struct Slot {
@@ -53,7 +53,7 @@ mod tests {
     use super::*;
 
     #[test]
-    fn the_example_of_document_01() {
+    fn the_example_of_clause_14_4_with_an_idle_slot() {
         let text = "slot place credits\n0 0 5 5\n1 0 2 6\n2 - 3 3\nend 3\n";
         let listing = Listing::read(text).unwrap();
         assert_eq!((listing.slots.len(), listing.places(), listing.ending.as_str()), (3, 2, "end 3"));

@@ -1,4 +1,4 @@
-//! A table's bytes: numbers in groups of seven bits, lowest group first.
+//! A table's bytes (clauses 3.1 to 3.5).
 
 use super::table::{check_burst, check_count, check_denominator, check_need, check_rate, check_within};
 use super::{pass, Fault, Requestor, Table};

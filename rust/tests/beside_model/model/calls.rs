@@ -1,4 +1,4 @@
-//! The state, and the calls on it. A refused call changes nothing.
+//! The state, and the calls on it (sections 4 to 7 and 11). A refused call changes nothing.
 
 use super::{pass, Fault, Table, IDLE, MAX_BACKLOG, MAX_LOG, MAX_PLACES, MAX_SLOT};
 
@@ -96,7 +96,7 @@ impl<const PLACES: usize> State<PLACES> {
         Ok((self.slot, self.table.count))
     }
 
-    /// 23.
+    /// 23 (clause 11.1).
     pub(super) fn check(&self) -> Result<(), Fault> {
         pass(self.table.check_limits().is_ok() && self.slot <= MAX_SLOT && self.accounts_are_sound(), 23)
     }
@@ -108,7 +108,7 @@ impl<const PLACES: usize> State<PLACES> {
             && self.credit_sums_are_sound(used)
     }
 
-    /// The credits of places 0 to k sum to at most their bursts, for every k. A damaged credit may be as large as it likes.
+    /// The sums of clause 5.8. A damaged credit may be as large as it likes.
     fn credit_sums_are_sound(&self, used: &[Account]) -> bool {
         let (mut credits, mut bursts) = (0_u64, 0);
         used.iter().zip(self.table.used()).all(|(account, requestor)| {
@@ -122,7 +122,7 @@ impl<const PLACES: usize> State<PLACES> {
         pass((place as u64) < self.table.count, 11)
     }
 
-    /// The rule of a slot, on a sound state below the last slot number.
+    /// Clauses 5.2 to 5.6, on a sound state below the last slot number.
     fn advance(&mut self) -> Option<usize> {
         let denominator = self.table.denominator;
         let mut granted = None;

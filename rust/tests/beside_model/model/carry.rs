@@ -1,4 +1,4 @@
-//! Change request 5: what a unit of the old limit kept, carried over.
+//! What a unit of the old limit kept, carried over (clause 11.4).
 
 use super::{pass, Account, Fault, Requestor, State, Table};
 

@@ -1,4 +1,4 @@
-//! Change request 4: places that follow one another.
+//! Places that follow one another (clauses 9.1 to 9.3).
 
 use std::iter::successors;
 

@@ -1,5 +1,5 @@
-//! A second arbiter in plain Rust, written from document 01, as the requests of document 02 have changed it, and from nothing else: the product's answers are held to it, and its
-//! time is measured beside the product's. All numbers are u64. A table has room for as many places as there may be, or as are said.
+//! A second arbiter in plain Rust, written from the specification and from nothing else: the product's answers are held to it, and its time
+//! is measured beside the product's. All numbers are u64. A table has room for as many places as there may be, or as are said.
 
 mod bytes;
 mod calls;
@@ -21,7 +21,7 @@ pub const MAX_BACKLOG: u64 = 65_535;
 pub const MAX_LOG: usize = 65_536;
 pub const IDLE: u8 = 255;
 
-/// Document 01's number of a refusal, and the place where it names one.
+/// The number of a refusal (section 12), and the place where it names one.
 #[derive(Clone, Copy, Debug, PartialEq, Eq)]
 pub struct Fault {
     pub number: u8,

@@ -1,4 +1,4 @@
-//! Change request 2: places for requestors that are listed in any order. The rule finds one order; where there are few requestors, all
+//! Places for requestors that are listed in any order (clauses 8.1 to 8.3). The rule finds one order; where there are few requestors, all
 //! orders can be tried.
 
 use super::{Fault, Requestor, Table, MAX_PLACES};
@@ -27,7 +27,7 @@ impl<const PLACES: usize> Table<PLACES> {
 
     /// Every order of the requestors that passes admission, each table once, found by trying all that there are. Ahead of the others
     /// come those with the last of the list at the lowest place, among these those with the last of the rest at the next place up, and
-    /// so on: the first is the one that the rule has to find.
+    /// so on: the first is the one that clause 8.1 finds.
     pub fn passing_orders(&self) -> Vec<Table<PLACES>> {
         let mut passing = Vec::new();
         self.try_orders(self.count as usize, &mut passing);

@@ -75,7 +75,7 @@ impl<const PLACES: usize> Table<PLACES> {
         &self.requestors[..self.count as usize]
     }
 
-    /// 1 to 7 and 17, in the order for a table given as numbers.
+    /// 1 to 7 and 17, in the order of clause 13.1.
     pub fn admit(&self) -> Result<(), Fault> {
         self.check_numbers(Requestor::check)?;
         self.check_finishes()
@@ -110,23 +110,23 @@ impl<const PLACES: usize> Table<PLACES> {
         Ok(())
     }
 
-    /// B of a place: the bursts above it.
+    /// B of a place (clause 7.1): the bursts above it.
     pub fn bursts_above(&self, place: usize) -> u64 {
         self.requestors[..place].iter().map(|above| above.burst).sum()
     }
 
-    /// R of a place: what the rates above it leave of D.
+    /// R of a place (clause 7.1): what the rates above it leave of D.
     pub fn rate_left(&self, place: usize) -> u64 {
         self.denominator - self.requestors[..place].iter().map(|above| above.rate).sum::<u64>()
     }
 
-    /// The wait as it is reported.
+    /// The wait as it is reported (clause 7.2).
     pub fn wait(&self, place: usize) -> u64 {
         self.bursts_above(place).div_ceil(self.rate_left(place))
     }
 
-    /// The finish figure for so many transfers: the fractions B / R and j D / n, summed and then rounded up. It is compiled into each of
-    /// its callers, so that a start that is measured does not depend on who else asks for the figure.
+    /// The finish figure for so many transfers (clause 7.3). It is compiled into each of its callers, so that a start that is measured does
+    /// not depend on who else asks for the figure.
     #[inline(always)]
     pub fn finish(&self, place: usize, transfers: u64) -> u64 {
         let (left, rate) = (self.rate_left(place), self.requestors[place].rate);

@@ -28,7 +28,7 @@ pub type Turned = (u8, Option<usize>, bool);
 
 /// All that a call leaves behind: its numbers or its refusal, the lent bytes and the state's words.
 #[derive(Debug, PartialEq)]
-pub struct Told {
+pub struct Output {
     pub answer: Result<Vec<i64>, Turned>,
     pub lent: Vec<u8>,
     pub words: Vec<u64>,
@@ -59,7 +59,7 @@ impl Call {
         }
     }
 
-    pub fn on_product<const ROOM: usize>(&self, arbiter: &mut Arbiter<ROOM>) -> Told {
+    pub fn on_product<const ROOM: usize>(&self, arbiter: &mut Arbiter<ROOM>) -> Output {
         let mut lent = self.lent();
         let answer = match self {
             Call::Post(place, count) => arbiter.post(*place, Transfers(*count)).map(|()| vec![]),
@@ -76,10 +76,10 @@ impl Call {
             }
             Call::Standing => arbiter.standing().map(|standing| vec![standing.slot.0 as i64, standing.places as i64]),
         };
-        Told { answer: answer.map_err(turned_by_product), lent, words: arbiter.words().to_vec() }
+        Output { answer: answer.map_err(turned_by_product), lent, words: arbiter.words().to_vec() }
     }
 
-    pub fn on_model<const ROOM: usize>(&self, state: &mut State<ROOM>) -> Told {
+    pub fn on_model<const ROOM: usize>(&self, state: &mut State<ROOM>) -> Output {
         let mut lent = self.lent();
         let answer = match self {
             Call::Post(place, count) => state.post(*place, *count).map(|()| vec![]),
@@ -96,7 +96,7 @@ impl Call {
             }
             Call::Standing => state.standing().map(|(slot, places)| vec![slot as i64, places as i64]),
         };
-        Told { answer: answer.map_err(turned_by_model), lent, words: words_of(state) }
+        Output { answer: answer.map_err(turned_by_model), lent, words: words_of(state) }
     }
 }
 
@@ -113,7 +113,7 @@ fn slot_numbers(answer: SlotAnswer) -> Vec<i64> {
     }
 }
 
-/// What an outcome of an exported function says: the refusal's number in the low 8 bits, and above them the place + 1.
+/// What an outcome of an exported function says (clause 15.4): the refusal's number in the low 8 bits, and above them the place + 1.
 pub fn answer_of(outcome: u64) -> Result<(), Refusal> {
     if outcome == 0 {
         return Ok(());
@@ -128,7 +128,7 @@ pub fn turned_by_product(refusal: Refusal) -> Turned {
     (refusal.number, refusal.place, refusal.cause == Cause::State)
 }
 
-/// Document 01: 21 to 29 are caused by the state, all others by the input.
+/// The state causes what has a number from 21 to 29, and the input all else (section 12).
 pub fn turned_by_model(fault: Fault) -> Turned {
     (fault.number, fault.place, (21..=29).contains(&fault.number))
 }

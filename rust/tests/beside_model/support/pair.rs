@@ -2,7 +2,7 @@
 
 use justrave::Arbiter;
 
-use super::calls::{self, Call, Told};
+use super::calls::{self, Call, Output};
 use super::chance::Chance;
 use super::tally::Tally;
 use super::words::words_of;
@@ -21,7 +21,7 @@ impl<const ROOM: usize> Pair<ROOM> {
     }
 
     /// What both tell of one call, which must be the same.
-    pub fn told(&mut self, call: &Call) -> Told {
+    pub fn told(&mut self, call: &Call) -> Output {
         let before = self.model;
         let product = call.on_product(&mut self.product);
         let model = call.on_model(&mut self.model);

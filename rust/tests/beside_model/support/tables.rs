@@ -290,7 +290,7 @@ pub fn numbers<const ROOM: usize>(chance: &mut Chance) -> Table<ROOM> {
     table
 }
 
-/// A number past place N - 1 that is not 0, if there is such a place.
+/// Something other than 0 behind the last place, if there is room.
 fn put_past_the_last<const ROOM: usize>(chance: &mut Chance, table: &mut Table<ROOM>) {
     let count = table.count as usize;
     if count < ROOM {

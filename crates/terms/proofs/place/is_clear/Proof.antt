@@ -1,4 +1,4 @@
--- `arbiter::table::is_clear` meets its contract. Four fields, in the order of the definition. Assumes nothing.
+-- `terms::place::is_clear` meets its contract. Four fields, in the order of the definition. Assumes nothing.
 use borrow.Author.Tests.{eq-eqb, ne-eqb}
 use Rattle.terms.proofs.place.is_clear.Statement.{statement}
 use Rattle.terms.proofs.place.is_clear.Tie as tie

@@ -1,4 +1,4 @@
--- `arbiter::refusals::first_fault` meets its contract. By the case of the first. Assumes nothing.
+-- `terms::refusals::first_fault` meets its contract. By the case of the first. Assumes nothing.
 use borrow.Author.Needs.{needs}
 use Rattle.terms.specs.Refusals.{then}
 use Rattle.terms.proofs.refusals.first_fault.Statement.{statement}
