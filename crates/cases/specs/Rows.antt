@@ -176,7 +176,7 @@ waitsThroughout p s (slot ∷ cs) = ltb 0 (backlog (accountAt p (s .accounts))) 
 
 -- the floor's two sides from its parts
 abbrev pub floorSides : ℕ → Bool → ℕ → ℕ → ℕ → ℕ → ℕ → ℕ → Reply
-floorSides c waits d n R B L g = floored c waits (R * d * g) (n * (R * L - B))
+floorSides c waits d n R B m g = floored c waits (R * d * g) (n * (R * m - B))
 
 unfoldable pub reply : Query → Reply
 reply (readingNumber given) = number (numberRead given)

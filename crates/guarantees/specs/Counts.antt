@@ -21,7 +21,7 @@ inSlot x f (granted stamp p) = f (Place p)
 inSlot x f (idle stamp) = f Nobody
 inSlot x f (refused r) = x
 
--- the number of accepted slots: L of a stretch (clause 10.1)
+-- the number of accepted slots: m of a stretch (clause 10.3)
 abbrev pub slotsIn : List Answer → ℕ
 slotsIn = total (inSlot 0 (λ g. 1))
 
@@ -56,7 +56,7 @@ pub record Accepted (limit : ℕ) (t : Table) (first : ℕ) : Type 0 where
 abbrev pub startState : ℕ → Table → ℕ → State
 startState limit t first = start limit t first .state
 
--- the state after calls from a start, and what calls on a state answer: each is handed what its forerunner handed back (clause 10.1)
+-- the state after calls from a start, and what calls on a state answer: each is handed what the one before it left (clause 10.1)
 abbrev pub stateAfter : ℕ → Table → ℕ → List Call → State
 stateAfter limit t first calls = Runs.end (called limit) (startState limit t first) calls
 

@@ -16,14 +16,14 @@ use Rattle.terms.specs.Start.{opening}
 use Rattle.rule.specs.Calls.{Call, ruled, called}
 use Rattle.guarantees.specs.Counts.{slotsIn, grantsTo, grantsToFirst, Waits, Accepted, startState, stateAfter, answersFrom}
 
--- Clause 10.4: what the first k places get in L slots, D for each grant, is covered by their bursts and L times their rates. If all L slots
--- go to the places above p, it says with k = p that R × L ≤ B, the wait of clause 7.2.
+-- Clause 10.4: what the first k places get in m slots, D for each grant, is covered by their bursts and m times their rates. If all m slots
+-- go to the places above p, it says with k = p that R × m ≤ B, the wait of clause 7.2.
 abbrev pub Ceiling : ℕ → List Requestor → ℕ → ℕ → ℕ → Type 0
-Ceiling d rs k L g = d * g ≤ total burst (take k rs) + L * total rate (take k rs)
+Ceiling d rs k m g = d * g ≤ total burst (take k rs) + m * total rate (take k rs)
 
--- clause 10.3: what place p gets in L slots is its share of them less the wait B / R, both sides times R × D and without a difference
+-- clause 10.3: what place p gets in m slots is its share of them less the wait B / R, both sides times R × D and without a difference
 abbrev pub Floor : ℕ → List Requestor → ℕ → ℕ → ℕ → Type 0
-Floor d rs p L g = n * R * L ≤ R * d * g + n * B
+Floor d rs p m g = n * R * m ≤ R * d * g + n * B
   where
     n : ℕ
     n = requestorAt p rs .rate

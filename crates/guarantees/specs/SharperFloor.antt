@@ -12,13 +12,13 @@ use Rattle.terms.specs.Figures.{burstsAbove, rateLeft}
 use Rattle.rule.specs.Calls.{Call}
 use Rattle.guarantees.specs.Counts.{slotsIn, grantsTo, Waits, answersFrom}
 
--- Clause 10.6, and a little more: its second bound, which there is strict, holds here with 1 added to c + n × L.
-abbrev pub Sharp : (d n R B c L g : ℕ) → Type 0
-Sharp d n R B c L g = (R * L ≤ d * g + B) ⊎ (R * (c + n * L + 1) ≤ R * (d * g + d) + n * B)
+-- clause 10.6
+abbrev pub Sharp : (d n R B c m g : ℕ) → Type 0
+Sharp d n R B c m g = (R * m ≤ d * g + B) ⊎ (R * (c + n * m + 1) ≤ R * (d * g + d) + n * B)
 
 -- with the figures of place p
 abbrev pub Sharper : ℕ → List Requestor → ℕ → ℕ → ℕ → ℕ → Type 0
-Sharper d rs p c L g = Sharp d (requestorAt p rs .rate) (rateLeft d p rs) (burstsAbove p rs) c L g
+Sharper d rs p c m g = Sharp d (requestorAt p rs .rate) (rateLeft d p rs) (burstsAbove p rs) c m g
 
 -- clause 10.6 from any sound state, for a place that waits in each slot of the stretch
 abbrev pub Sharper-floor : Type 0
