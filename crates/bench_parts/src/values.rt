@@ -13,7 +13,9 @@ ghost use mathlib.Core.Path.{_≡_};
 ghost use mathlib.Core.List.{[], _∷_};
 ghost use Rattle.terms.specs.Limits.{maxPlaces};
 ghost use Rattle.terms.specs.Table.{tableOf};
-ghost use Rattle.arbiter.specs.ByValue.{given};
+ghost use Rattle.terms.specs.Start.{noState};
+ghost use Rattle.layout.specs.Words.{withAccount, withSlot, withTable};
+ghost use Rattle.arbiter.specs.ByValue.{given, held};
 
 // A rate n, a burst b, and the need of one transfer within l slots.
 pub fn row(n: u64, b: u64, l: u64) -> Requestor
@@ -86,7 +88,9 @@ pub fn account(credit: u64, backlog: u64) -> Account
 }
 
 // Table T with these accounts at its two places. No start has made it, and it may break a rule.
-pub fn t_with(first: Account, second: Account, slot: u64) -> Arbiter {
+pub fn t_with(first: Account, second: Account, slot: u64) -> Arbiter
+    ensures { λ s. ⌜ held s ≡ withAccount (withAccount (withSlot (withTable (noState maxPlaces) (tableOf maxPlaces 4 2 (record { rate = 1; burst = 8; need = record { 0 = 1 }; within = record { 0 = 4 } } ∷ record { rate = 1; burst = 4; need = record { 0 = 1 }; within = record { 0 = 7 } } ∷ []))) slot) 0 first) 1 second ⌝ }
+{
     let mut words = lay_table(t());
     put_slot_number(&mut words, Slots(slot));
     put_account(&mut words, 0, first);
