@@ -20,11 +20,11 @@ abbrev pub TablePassed : Table → Type 0
 TablePassed t = Is (row table.the_type) t (val table.the_type table-laws.the_laws t ∷ [])
 
 pub table_rows : (t : Table) → TablePassed t → length t.requestors ≡ max_places
-table_rows t known = sym (length-map t.requestors _) ∙ known.1.1.1.1.0.1.0.1
+table_rows t known = known.1.1.1.1.0.1.0.1
 
 -- a parameter of the type Arbiter
 abbrev pub StatePassed : Arbiter → Type 0
 StatePassed s = Is (row state.the_type) s (val state.the_type state-laws.the_laws s ∷ [])
 
 pub words_full : (s : Arbiter) → StatePassed s → Full s
-words_full s known = sym (length-map s.words _) ∙ known.1.1.0.1.0.1
+words_full s known = known.1.1.0.1.0.1

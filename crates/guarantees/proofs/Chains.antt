@@ -102,13 +102,13 @@ module _ (limit : ℕ) (T : Table) where
     stands = f.stands;
   }
 
-  find : (p m : ℕ) (s : State) (calls : List Call) → Stands s → 1 ≤ grants_to p (first_slots (answers_from limit s calls) m) → Found p m s calls
+  find : (p : ℕ) (s : State) (calls : List Call) (m : ℕ) → Stands s → 1 ≤ grants_to p (first_slots (answers_from limit s calls) m) → Found p m s calls
   unfolding answers first_slots total
-  find p m s [] k h = absurd (omega arith)
-  find p zero s (c ∷ calls) k h = absurd (omega arith)
-  find p (suc m) s (c ∷ calls) k h = cases (is_grant_to p (called limit s c).answer)
+  find p s [] m k h = absurd (omega arith)
+  find p s (c ∷ calls) zero k h = absurd (omega arith)
+  find p s (c ∷ calls) (suc m) k h = cases (is_grant_to p (called limit s c).answer)
       (found_here p m s c calls k)
-      (λ e. found_past p m s c calls e (find p _ (called limit s c).state calls (stands_next s c k) (omega (arith, no_grant p (called limit s c).answer e))))
+      (λ e. found_past p m s c calls e (find p (called limit s c).state calls _ (stands_next s c k) (omega (arith, no_grant p (called limit s c).answer e))))
 
   -- ---- a link's post
 
@@ -190,7 +190,7 @@ module _ (limit : ℕ) (T : Table) where
           ∙ post_slots (end (called limit) s x.ahead) k₁ p place x.no_backlog x.behind
 
       f : Found p (figure_of p) (posted_state x) x.behind
-      f = find p (figure_of p) (posted_state x) x.behind k₂
+      f = find p (posted_state x) x.behind (figure_of p) k₂
           (need_from limit T (posted_state x) k₂.0 k₂.1 x.behind p 1 (figure_of p) (post_waits (end (called limit) s x.ahead) k₁ p place x.no_backlog) (omega arith)
           (omega (arith, counted)))
 

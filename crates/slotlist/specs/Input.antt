@@ -1,8 +1,6 @@
 -- How many bytes of the lent room an input fills.
-use Rattle.std.specs.Prelude.{ℕ}
-use Rattle.slotlist.specs.declared.Input.{Input}
-use Rattle.slotlist.specs.declared.Input.TheVariants.{Bytes, Failed}
+use Rattle.std.specs.Prelude.{ℕ, Result, Ok, Err}
 
-abbrev pub bytes_of : Input → ℕ
-bytes_of (Bytes n) = n
-bytes_of Failed = 0
+abbrev pub bytes_of : {E : Type 0} → Result ℕ E → ℕ
+bytes_of (Ok n) = n
+bytes_of (Err failed) = 0
