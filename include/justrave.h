@@ -1,7 +1,7 @@
 /*
  * Justrave: the arbiter of a dosing unit's field line, for firmware in C. Clauses are those of docs/SPECIFICATION.md.
  *
- * Link target/staticlib/libjustrave.a, which `rt staticlib justrave` proves and builds (x86-64). It needs no heap, no set-up and of
+ * Link target/staticlib/libjustrave.a, which `make library` proves and builds (x86-64). It needs no heap, no set-up and of
  * the C library at most memcpy and memset, and keeps nothing between two calls: all there is of an arbiter is the state that the
  * caller lends.
  *

@@ -18,7 +18,7 @@ fn main() {
     println!("cargo:rustc-link-lib=static=justrave");
 }
 
-/// The folder that the variable names, or the one that `rt staticlib` writes to.
+/// The folder that the variable names, or the one that `make library` writes to.
 fn library_folder() -> PathBuf {
     let package = env::var_os("CARGO_MANIFEST_DIR").expect("cargo sets CARGO_MANIFEST_DIR");
     env::var_os(VARIABLE).map_or_else(|| Path::new(&package).join("../target/staticlib"), PathBuf::from)
@@ -26,6 +26,6 @@ fn library_folder() -> PathBuf {
 
 fn explain(library: &Path) {
     eprintln!("the proved library is not there: {}", library.display());
-    eprintln!("Build it in the repository's root folder, with the Rattle kit's rt on the PATH: rt staticlib justrave");
+    eprintln!("Build it in the repository's root folder, with the Rattle kit's rt on the PATH: make library");
     eprintln!("If it lies elsewhere, let {VARIABLE} name its folder, as an absolute path.");
 }

@@ -25,7 +25,7 @@
 //!
 //! # Linking
 //!
-//! The library is `libjustrave.a`, which `rt staticlib justrave` proves and builds. The build script looks for it in the
+//! The library is `libjustrave.a`, which `make library` proves and builds. The build script looks for it in the
 //! repository's `target/staticlib`, or in the folder that the environment variable `JUSTRAVE_LIB_DIR` names.
 //!
 //! No heap is used and no standard library: an [`Arbiter`] is [`Arbiter::STATE_WORDS`] words of its owner's memory, which the library

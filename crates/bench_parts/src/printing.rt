@@ -2,7 +2,7 @@
 use arbiter::state::Arbiter;
 use arbiter::table::Table;
 use layout::words::{account, slot_number};
-use libc::STDOUT_FILENO;
+use std::io;
 use terms::place::Requestor;
 use terms::refusals::{Cause, Named, Origin};
 
@@ -49,104 +49,102 @@ pub const TAKES: u8 = b't';
 
 pub const WROTE: u8 = b'b';
 
-pub fn say(word: u8) {
-    io::write_all(STDOUT_FILENO, &[b' ', word]);
+pub fn say(rt: &impl Print, word: u8) -> io::Result<()> {
+    let letter = word as char;
+    print!(rt; " {letter}")
 }
 
-pub fn end() {
-    io::write_all(STDOUT_FILENO, b"\n");
+pub fn end(rt: &impl Print) -> io::Result<()> {
+    println!(rt; "")
 }
 
-pub fn number(x: u64) {
-    io::write_all(STDOUT_FILENO, b" ");
-    io::print_decimal(STDOUT_FILENO, x);
+pub fn number(rt: &impl Print, x: u64) -> io::Result<()> {
+    print!(rt; " {x}")
 }
 
 // A line begins with its case; 0 is none of clauses 16.1 to 16.13.
-pub fn case(k: u64) {
-    end();
-    io::write_all(STDOUT_FILENO, b"case");
-    number(k);
+pub fn case(rt: &impl Print, k: u64) -> io::Result<()> {
+    end(rt)?;
+    print!(rt; "case")?;
+    number(rt, k)
 }
 
 // A letter and its number.
-pub fn told(word: u8, x: u64) {
-    say(word);
-    number(x);
+pub fn told(rt: &impl Print, word: u8, x: u64) -> io::Result<()> {
+    say(rt, word)?;
+    number(rt, x)
 }
 
-fn caused(by: Origin) {
+fn caused(rt: &impl Print, by: Origin) -> io::Result<()> {
     match by {
-        Origin::Input => say(INPUT),
-        Origin::State => say(STATE),
+        Origin::Input => say(rt, INPUT),
+        Origin::State => say(rt, STATE),
     }
 }
 
-fn named(place: Named) {
+fn named(rt: &impl Print, place: Named) -> io::Result<()> {
     match place {
-        Named::None => {}
-        Named::Place(p) => told(PLACE, p as u64),
+        Named::None => Ok(()),
+        Named::Place(p) => told(rt, PLACE, p as u64),
     }
 }
 
 // The refusal's number, what caused it, and the place that it names.
-pub fn refused(c: Cause) {
+pub fn refused(rt: &impl Print, c: Cause) -> io::Result<()> {
     let r = c.refusal();
     let place = r.place;
     let by = r.origin;
-    told(REFUSED, r.number as u64);
-    caused(by);
-    named(place);
+    told(rt, REFUSED, r.number as u64)?;
+    caused(rt, by)?;
+    named(rt, place)
 }
 
 // The credits and the backlogs of places 0 and 1, and the slot number.
-pub fn state(s: Arbiter) {
+pub fn state(rt: &impl Print, s: Arbiter) -> io::Result<()> {
     let words = s.words;
     let a = account(&words, 0);
     let b = account(&words, 1);
     let p = a.backlog;
     let q = b.backlog;
     let slot = slot_number(&words);
-    told(CREDITS, a.credit);
-    number(b.credit);
-    told(BACKLOGS, p.0);
-    number(q.0);
-    told(SLOT, slot.0);
+    told(rt, CREDITS, a.credit)?;
+    number(rt, b.credit)?;
+    told(rt, BACKLOGS, p.0)?;
+    number(rt, q.0)?;
+    told(rt, SLOT, slot.0)
 }
 
-fn requestor(r: Requestor) {
+fn requestor(rt: &impl Print, r: Requestor) -> io::Result<()> {
     let j = r.need;
     let l = r.within;
-    number(r.rate);
-    number(r.burst);
-    number(j.0);
-    number(l.0);
+    number(rt, r.rate)?;
+    number(rt, r.burst)?;
+    number(rt, j.0)?;
+    number(rt, l.0)
 }
 
 // D, N and the rows of places 0 and 1, in the order of a table's bytes.
-pub fn table(t: Table) {
+pub fn table(rt: &impl Print, t: Table) -> io::Result<()> {
     let first = t.requestors[0];
     let second = t.requestors[1];
-    told(TABLE, t.denominator);
-    number(t.count as u64);
-    requestor(first);
-    requestor(second);
+    told(rt, TABLE, t.denominator)?;
+    number(rt, t.count as u64)?;
+    requestor(rt, first)?;
+    requestor(rt, second)
 }
 
 // A log's bytes, or a buffer's.
-pub fn decimals(bytes: &[u8]) {
-    let mut i: usize = 0;
-    while i < bytes.len() {
-        number(bytes[i] as u64);
-        i = i + 1;
+pub fn decimals(rt: &impl Print, bytes: &[u8]) -> io::Result<()> {
+    for byte in bytes {
+        number(rt, *byte as u64)?;
     }
+    Ok(())
 }
 
 // A replay's answers.
-pub fn numbers(words: &[u64]) {
-    let mut i: usize = 0;
-    while i < words.len() {
-        number(words[i]);
-        i = i + 1;
+pub fn numbers(rt: &impl Print, words: &[u64]) -> io::Result<()> {
+    for word in words {
+        number(rt, *word)?;
     }
+    Ok(())
 }

@@ -18,6 +18,7 @@ use groups::writing::{number_len, write_number};
 use in_place::slot_through_reference;
 use ordering::order::order;
 use replay::replay;
+use std::io;
 use terms::answers::{
     AccountAnswer, ChainAnswer, FiguresAnswer, LeadAnswer, OrderAnswer, ReadAnswer, RunAnswer,
     SlotAnswer, StandingAnswer, StartAnswer, WriteAnswer,
@@ -26,102 +27,102 @@ use terms::refusals::Verdict;
 use terms::units::{Slots, Transfers};
 
 // A refused reading hands back a table of zeros.
-pub fn reads_table(bytes: &[u8]) {
+pub fn reads_table(rt: &impl Print, bytes: &[u8]) -> io::Result<()> {
     let done = read_table(bytes);
     let t = done.table;
     let a = done.answer;
-    table(t);
+    table(rt, t)?;
     match a {
-        ReadAnswer::Accepted => say(printing::ACCEPTED),
-        ReadAnswer::Refused(c) => refused(c),
+        ReadAnswer::Accepted => say(rt, printing::ACCEPTED),
+        ReadAnswer::Refused(c) => refused(rt, c),
     }
 }
 
 // The table in order; a refused one is of zeros.
-pub fn orders(t: Table) {
+pub fn orders(rt: &impl Print, t: Table) -> io::Result<()> {
     let done = order(t);
     let u = done.table;
     let a = done.answer;
-    table(u);
+    table(rt, u)?;
     match a {
-        OrderAnswer::Ordered => say(printing::ACCEPTED),
-        OrderAnswer::Refused(c) => refused(c),
+        OrderAnswer::Ordered => say(rt, printing::ACCEPTED),
+        OrderAnswer::Refused(c) => refused(rt, c),
     }
 }
 
 // The number and how many bytes it takes, or what is wrong.
-pub fn reads_number(bytes: &[u8]) {
+pub fn reads_number(rt: &impl Print, bytes: &[u8]) -> io::Result<()> {
     match read_number(bytes) {
         Reading::Number(x, taken) => {
-            number(x as u64);
-            told(printing::TAKES, taken as u64);
+            number(rt, x as u64)?;
+            told(rt, printing::TAKES, taken as u64)
         }
-        Reading::Ended => say(printing::ENDED),
-        Reading::Malformed => say(printing::MALFORMED),
+        Reading::Ended => say(rt, printing::ENDED),
+        Reading::Malformed => say(rt, printing::MALFORMED),
     }
 }
 
 // How many bytes the number takes and how many were written, and the whole buffer after it.
-fn writes_into(x: u32, buffer: &mut [u8]) {
+fn writes_into(rt: &impl Print, x: u32, buffer: &mut [u8]) -> io::Result<()> {
     let wrote = write_number(x, buffer);
-    number(x as u64);
-    told(printing::TAKES, number_len(x) as u64);
-    told(printing::WROTE, wrote as u64);
-    decimals(buffer);
+    number(rt, x as u64)?;
+    told(rt, printing::TAKES, number_len(x) as u64)?;
+    told(rt, printing::WROTE, wrote as u64)?;
+    decimals(rt, buffer)
 }
 
-pub fn writes_number(x: u32) {
+pub fn writes_number(rt: &impl Print, x: u32) -> io::Result<()> {
     let mut buffer = [170u8; 6];
-    writes_into(x, &mut buffer);
+    writes_into(rt, x, &mut buffer)
 }
 
 // The whole buffer after a writing, and how many bytes were written.
-pub fn writes_table(t: Table, buffer: &mut [u8]) {
+pub fn writes_table(rt: &impl Print, t: Table, buffer: &mut [u8]) -> io::Result<()> {
     let answer = write_table(t, buffer);
-    decimals(buffer);
+    decimals(rt, buffer)?;
     match answer {
-        WriteAnswer::Wrote(bytes) => told(printing::WROTE, bytes as u64),
-        WriteAnswer::Refused(c) => refused(c),
+        WriteAnswer::Wrote(bytes) => told(rt, printing::WROTE, bytes as u64),
+        WriteAnswer::Refused(c) => refused(rt, c),
     }
 }
 
-pub fn admits(t: Table) {
+pub fn admits(rt: &impl Print, t: Table) -> io::Result<()> {
     match admit_table(t) {
-        Verdict::Faultless => say(printing::ACCEPTED),
-        Verdict::Fault(c) => refused(c),
+        Verdict::Faultless => say(rt, printing::ACCEPTED),
+        Verdict::Fault(c) => refused(rt, c),
     }
 }
 
 // The thin form: the slot of a state that is lent.
-pub fn lends(s: Arbiter) {
+pub fn lends(rt: &impl Print, s: Arbiter) -> io::Result<()> {
     let done = slot_through_reference(s);
     let after = done.state;
     let a = done.answer;
-    case(0);
-    say(printing::LOAN);
-    state(after);
+    case(rt, 0)?;
+    say(rt, printing::LOAN)?;
+    state(rt, after)?;
     match a {
         SlotAnswer::Granted(stamp, place) => {
-            told(printing::GRANTED, place as u64);
-            told(printing::STAMP, stamp.0);
+            told(rt, printing::GRANTED, place as u64)?;
+            told(rt, printing::STAMP, stamp.0)
         }
         SlotAnswer::Idle(stamp) => {
-            say(printing::IDLE);
-            told(printing::STAMP, stamp.0);
+            say(rt, printing::IDLE)?;
+            told(rt, printing::STAMP, stamp.0)
         }
-        SlotAnswer::Refused(c) => refused(c),
+        SlotAnswer::Refused(c) => refused(rt, c),
     }
 }
 
-pub fn runs(s: Arbiter, log: &mut [u8]) {
+pub fn runs(rt: &impl Print, s: Arbiter, log: &mut [u8]) -> io::Result<()> {
     let done = run(s, log);
     let after = done.state;
     let a = done.answer;
-    decimals(log);
-    state(after);
+    decimals(rt, log)?;
+    state(rt, after)?;
     match a {
-        RunAnswer::Ran => say(printing::ACCEPTED),
-        RunAnswer::Refused(c) => refused(c),
+        RunAnswer::Ran => say(rt, printing::ACCEPTED),
+        RunAnswer::Refused(c) => refused(rt, c),
     }
 }
 
@@ -135,87 +136,93 @@ fn distance(x: i64) -> u64 {
 }
 
 // A lead below 0 is told as minus its distance from 0.
-fn tell_lead(x: i64) {
+fn tell_lead(rt: &impl Print, x: i64) -> io::Result<()> {
     let size = distance(x);
     if x < 0 {
-        told(printing::MINUS, size);
+        told(rt, printing::MINUS, size)?;
     } else {
-        number(size);
+        number(rt, size)
     }
 }
 
-pub fn leads(s: Arbiter, place: usize, log: &[u8]) {
+pub fn leads(rt: &impl Print, s: Arbiter, place: usize, log: &[u8]) -> io::Result<()> {
     match lead(s, place, log) {
-        LeadAnswer::Lead(x) => tell_lead(x),
-        LeadAnswer::Refused(c) => refused(c),
+        LeadAnswer::Lead(x) => tell_lead(rt, x),
+        LeadAnswer::Refused(c) => refused(rt, c),
     }
 }
 
-pub fn figures_of(s: Arbiter, place: usize) {
+pub fn figures_of(rt: &impl Print, s: Arbiter, place: usize) -> io::Result<()> {
     match figures(s, place, Transfers(1)) {
         FiguresAnswer::Figures(f) => {
             let wait = f.wait;
             let finish = f.finish;
-            told(printing::WAIT, wait.0);
-            told(printing::FINISH, finish.0);
+            told(rt, printing::WAIT, wait.0)?;
+            told(rt, printing::FINISH, finish.0)
         }
-        FiguresAnswer::Refused(c) => refused(c),
+        FiguresAnswer::Refused(c) => refused(rt, c),
     }
 }
 
-pub fn chains(s: Arbiter, place: usize, names: &[u8]) {
+pub fn chains(rt: &impl Print, s: Arbiter, place: usize, names: &[u8]) -> io::Result<()> {
     match chain(s, place, names) {
-        ChainAnswer::Figure(f) => number(f.0),
-        ChainAnswer::Refused(c) => refused(c),
+        ChainAnswer::Figure(f) => number(rt, f.0),
+        ChainAnswer::Refused(c) => refused(rt, c),
     }
 }
 
 // What an old state is carried over to; a refused one is all 0.
-pub fn carries(old: OldArbiter) {
+pub fn carries(rt: &impl Print, old: OldArbiter) -> io::Result<()> {
     let done = carry(old);
     let after = done.state;
     let a = done.answer;
-    state(after);
+    state(rt, after)?;
     match a {
-        StartAnswer::Started => say(printing::ACCEPTED),
-        StartAnswer::Refused(c) => refused(c),
+        StartAnswer::Started => say(rt, printing::ACCEPTED),
+        StartAnswer::Refused(c) => refused(rt, c),
     }
 }
 
-fn replays_into(t: Table, first: u64, calls: &[u32], answers: &mut [u64]) {
+fn replays_into(
+    rt: &impl Print,
+    t: Table,
+    first: u64,
+    calls: &[u32],
+    answers: &mut [u64],
+) -> io::Result<()> {
     let done = replay(t, Slots(first), calls, answers);
     let after = done.state;
     let a = done.answer;
-    numbers(answers);
-    state(after);
+    numbers(rt, answers)?;
+    state(rt, after)?;
     match a {
-        StartAnswer::Started => say(printing::ACCEPTED),
-        StartAnswer::Refused(c) => refused(c),
+        StartAnswer::Started => say(rt, printing::ACCEPTED),
+        StartAnswer::Refused(c) => refused(rt, c),
     }
 }
 
 // A start, posts and slots, three numbers to a call and to an answer; an answer that was not written is 7s.
-pub fn replays(t: Table, first: u64, calls: &[u32]) {
+pub fn replays(rt: &impl Print, t: Table, first: u64, calls: &[u32]) -> io::Result<()> {
     let mut answers = [7u64; 33];
-    say(printing::REPLAY);
-    replays_into(t, first, calls, &mut answers);
+    say(rt, printing::REPLAY)?;
+    replays_into(rt, t, first, calls, &mut answers)
 }
 
 // The account of a place, and where the line stands: the slot number, and N.
-pub fn looks(s: Arbiter, place: usize) {
+pub fn looks(rt: &impl Print, s: Arbiter, place: usize) -> io::Result<()> {
     match account(s, place) {
         AccountAnswer::Account(a) => {
             let q = a.backlog;
-            told(printing::CREDITS, a.credit);
-            told(printing::BACKLOGS, q.0);
+            told(rt, printing::CREDITS, a.credit)?;
+            told(rt, printing::BACKLOGS, q.0)?;
         }
-        AccountAnswer::Refused(c) => refused(c),
+        AccountAnswer::Refused(c) => refused(rt, c)?,
     }
     match standing(s) {
         StandingAnswer::Stands(at, n) => {
-            told(printing::SLOT, at.0);
-            number(n as u64);
+            told(rt, printing::SLOT, at.0)?;
+            number(rt, n as u64)
         }
-        StandingAnswer::Refused(c) => refused(c),
+        StandingAnswer::Refused(c) => refused(rt, c),
     }
 }

@@ -21,7 +21,9 @@
 mod answers;
 mod cases;
 
-fn main() {
-    cases::all();
-    bench_parts::printing::end();
+use std::io;
+
+fn main(rt: HostRuntime) -> io::Result<()> {
+    cases::all(&rt)?;
+    bench_parts::printing::end(&rt)
 }

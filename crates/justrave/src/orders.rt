@@ -9,8 +9,7 @@ use terms::answers::WriteAnswer;
 
 // The bytes of the table in order into the buffer; the answer is how many (clause 8.3). Refused: 255; 8, 9 and 1 to 5 number by number, 17
 // behind each place; 10, 6, 15, 14 (clause 13.6).
-#[unsafe(no_mangle)]
-pub extern "C" fn justrave_order(table: &[u8], buffer: &mut [u8], answer: &mut [u64]) -> u64
+pub fn justrave_order(table: &[u8], buffer: &mut [u8], answer: &mut [u64]) -> u64
     ensures { record { buffer = buffer.new; answer = answer.new; outcome = result } ≡ ordered max_places table.now buffer.old answer.old }
 {
     if answer.len() != 1 {

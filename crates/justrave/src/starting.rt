@@ -16,8 +16,7 @@ use terms::units::Slots;
 
 // The state of a table's bytes and a first slot number (clause 4.2). Refused: 255; 8, 9 and 1 to 5 number by number, 17 behind each place;
 // 10, 6, 7, 12 (clause 13.3).
-#[unsafe(no_mangle)]
-pub extern "C" fn justrave_start(table: &[u8], first: u64, state: &mut [u64]) -> u64
+pub fn justrave_start(table: &[u8], first: u64, state: &mut [u64]) -> u64
     ensures { record { words = state.new; outcome = result } ≡ started max_places table.now first state.old }
 {
     if !lengths_hold(state, true) {
@@ -31,8 +30,7 @@ pub extern "C" fn justrave_start(table: &[u8], first: u64, state: &mut [u64]) ->
 }
 
 // The same for a table given as numbers, for as many places as the words have room. Refused: 255, 1 to 7, 17, 12 (clause 13.3).
-#[unsafe(no_mangle)]
-pub extern "C" fn justrave_start_numbers(numbers: &[u32], first: u64, state: &mut [u64]) -> u64
+pub fn justrave_start_numbers(numbers: &[u32], first: u64, state: &mut [u64]) -> u64
     ensures { record { words = state.new; outcome = result } ≡ started_of max_places numbers.now first state.old }
 {
     if !lengths_hold(state, true) {
@@ -51,8 +49,7 @@ pub extern "C" fn justrave_start_numbers(numbers: &[u32], first: u64, state: &mu
 
 // The state of an old state's words, in words with room for at least as many places (clause 11.4); the old words are only read. Refused:
 // 255, 23 (clause 13.14).
-#[unsafe(no_mangle)]
-pub extern "C" fn justrave_carry(old: &[u64], state: &mut [u64]) -> u64
+pub fn justrave_carry(old: &[u64], state: &mut [u64]) -> u64
     ensures { record { words = state.new; outcome = result } ≡ carried_over old_places max_places old.now state.old }
 {
     if !lengths_fit(old, state) {

@@ -20,8 +20,7 @@ use terms::refusals::{Cause, StateRefusal};
 use terms::units::Transfers;
 
 // The answer is the reported wait and the finish figure for j transfers (clause 7.4). Refused: 255, 23, 11, 5 (clause 13.11).
-#[unsafe(no_mangle)]
-pub extern "C" fn justrave_figures(state: &[u64], place: usize, j: u64, answer: &mut [u64]) -> u64
+pub fn justrave_figures(state: &[u64], place: usize, j: u64, answer: &mut [u64]) -> u64
     ensures { record { answer = answer.new; outcome = result } ≡ figured max_places state.now place j answer.old }
 {
     if !lengths_hold(state, answer.len() == 2) {
@@ -41,8 +40,7 @@ pub extern "C" fn justrave_figures(state: &[u64], place: usize, j: u64, answer: 
 
 // The answer is the chain figure of the place (clause 9.2). The names are one byte for each place that the words have room for: the place
 // that it follows, or 255 for nobody; those past the table's places are not read. Refused: 255, 23, 11, 16 (clause 13.12).
-#[unsafe(no_mangle)]
-pub extern "C" fn justrave_chain(
+pub fn justrave_chain(
     state: &[u64],
     place: usize,
     names: &[u8],
@@ -67,8 +65,7 @@ pub extern "C" fn justrave_chain(
 }
 
 // The answer is the lead of the place over the log (clause 6.3). Refused: 255, 23, 11, 13 (clause 13.10).
-#[unsafe(no_mangle)]
-pub extern "C" fn justrave_lead(state: &[u64], place: usize, log: &[u8], answer: &mut [i64]) -> u64
+pub fn justrave_lead(state: &[u64], place: usize, log: &[u8], answer: &mut [i64]) -> u64
     ensures { record { answer = answer.new; outcome = result } ≡ led max_places state.now place log.now answer.old }
 {
     if !lengths_hold(state, answer.len() == 1) {
@@ -85,8 +82,7 @@ pub extern "C" fn justrave_lead(state: &[u64], place: usize, log: &[u8], answer:
 }
 
 // The table's bytes into the buffer; the answer is how many (clause 3.5). Refused: 255, 23, then the writer's, 17, 7 and 14 (clause 13.4).
-#[unsafe(no_mangle)]
-pub extern "C" fn justrave_write(state: &[u64], buffer: &mut [u8], answer: &mut [u64]) -> u64
+pub fn justrave_write(state: &[u64], buffer: &mut [u8], answer: &mut [u64]) -> u64
     ensures { record { buffer = buffer.new; answer = answer.new; outcome = result } ≡ wrote max_places state.now buffer.old answer.old }
 {
     if !lengths_hold(state, answer.len() == 1) {
@@ -106,8 +102,7 @@ pub extern "C" fn justrave_write(state: &[u64], buffer: &mut [u8], answer: &mut 
 }
 
 // The answer is the credit and the backlog of the place (clause 11.3). Refused: 255, 23, 11 (clause 13.13).
-#[unsafe(no_mangle)]
-pub extern "C" fn justrave_account(state: &[u64], place: usize, answer: &mut [u64]) -> u64
+pub fn justrave_account(state: &[u64], place: usize, answer: &mut [u64]) -> u64
     ensures { record { answer = answer.new; outcome = result } ≡ account_exported max_places state.now place answer.old }
 {
     if !lengths_hold(state, answer.len() == 2) {
@@ -125,8 +120,7 @@ pub extern "C" fn justrave_account(state: &[u64], place: usize, answer: &mut [u6
 }
 
 // The answer is the slot number and N (clause 11.3). Refused: 255, 23 (clause 13.13).
-#[unsafe(no_mangle)]
-pub extern "C" fn justrave_standing(state: &[u64], answer: &mut [u64]) -> u64
+pub fn justrave_standing(state: &[u64], answer: &mut [u64]) -> u64
     ensures { record { answer = answer.new; outcome = result } ≡ standing_exported max_places state.now answer.old }
 {
     if !lengths_hold(state, answer.len() == 2) {

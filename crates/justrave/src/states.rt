@@ -15,16 +15,14 @@ use terms::answers::{PostAnswer, RunAnswer, SlotAnswer};
 use terms::units::Transfers;
 
 // Which layout the words are in (clause 15.6). Words are kept with this number, since lengths of different layouts can agree.
-#[unsafe(no_mangle)]
-pub extern "C" fn justrave_layout() -> u64
+pub fn justrave_layout() -> u64
     ensures { result ≡ layout_version }
 {
     LAYOUT
 }
 
 // How many words a state with room for so many places has (clause 15.1); 0 for a room that no state has.
-#[unsafe(no_mangle)]
-pub extern "C" fn justrave_state_words(places: usize) -> usize
+pub fn justrave_state_words(places: usize) -> usize
     ensures { result ≡ size_of max_places places }
 {
     if places < 1 {
@@ -37,8 +35,7 @@ pub extern "C" fn justrave_state_words(places: usize) -> usize
 }
 
 // A post (clause 5.1). Refused: 255, 23, 11, 21 (clause 13.7).
-#[unsafe(no_mangle)]
-pub extern "C" fn justrave_post(state: &mut [u64], place: usize, count: u64) -> u64
+pub fn justrave_post(state: &mut [u64], place: usize, count: u64) -> u64
     ensures { record { words = state.new; outcome = result } ≡ posted max_places state.old place count }
 {
     if !lengths_hold(state, true) {
@@ -52,8 +49,7 @@ pub extern "C" fn justrave_post(state: &mut [u64], place: usize, count: u64) -> 
 }
 
 // The answer is the stamp, and the place granted + 1 or 0 for idle (clause 15.5). Refused: 255, 23, 22 (clause 13.8).
-#[unsafe(no_mangle)]
-pub extern "C" fn justrave_slot(state: &mut [u64], answer: &mut [u64]) -> u64
+pub fn justrave_slot(state: &mut [u64], answer: &mut [u64]) -> u64
     ensures { record { words = state.new; answer = answer.new; outcome = result } ≡ slotted max_places state.old answer.old }
 {
     if !lengths_hold(state, answer.len() == 2) {
@@ -74,8 +70,7 @@ pub extern "C" fn justrave_slot(state: &mut [u64], answer: &mut [u64]) -> u64
 }
 
 // As many slots as the log has bytes (clause 6.1). Refused: 255, 23, 13, 22 (clause 13.9).
-#[unsafe(no_mangle)]
-pub extern "C" fn justrave_run(state: &mut [u64], log: &mut [u8]) -> u64
+pub fn justrave_run(state: &mut [u64], log: &mut [u8]) -> u64
     ensures { record { words = state.new; log = log.new; outcome = result } ≡ ran max_places state.old log.old }
 {
     if !lengths_hold(state, true) {

@@ -1,0 +1,8 @@
+use Rattle.groups.proofs.Writings.{Put}
+use Rattle.groups.proofs.writing.put_groups.Given as goal
+
+abbrev pub invariant-loop-rest : goal.invariant-loop-rest
+invariant-loop-rest l = Put l.x l.initial.buffer l.buffer l.k l.rest
+
+abbrev pub decreases-loop-rest : goal.decreases-loop-rest
+decreases-loop-rest l = l.rest

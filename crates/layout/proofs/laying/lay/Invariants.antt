@@ -1,0 +1,9 @@
+use Prim.Native.Nat.{◌-◌}
+use Rattle.layout.proofs.Laid.{Laying, rows_given}
+use Rattle.layout.proofs.laying.lay.Given as goal
+
+abbrev pub invariant-loop-p : goal.invariant-loop-p
+invariant-loop-p l = Laying (rows_given l.numbers l.room) l.initial.words l.room l.d l.n l.words l.p
+
+abbrev pub decreases-loop-p : goal.decreases-loop-p
+decreases-loop-p l = l.room - l.p

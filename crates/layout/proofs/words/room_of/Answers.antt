@@ -1,0 +1,7 @@
+use mathlib.Core.Path.{refl}
+use Rattle.layout.specs.Words.{room_of_words}
+use Rattle.layout.proofs.words.room_of.Goals as goal
+
+pub returns : goal.returns
+unfolding room_of_words
+returns c = refl

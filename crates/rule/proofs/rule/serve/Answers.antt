@@ -1,0 +1,15 @@
+use mathlib.Core.Path.{refl}
+use native.Mathlib.Omega.{arith}
+use Rattle.rule.specs.Rule.{served}
+use Rattle.rule.proofs.Accounts.{eligible_true}
+use Rattle.rule.proofs.rule.serve.Goals as goal
+
+pub overflow_sub-result : goal.overflow_sub-result
+overflow_sub-result c = (eligible_true c.args.r c.args.a c.args.d c.requires.1).1
+
+pub overflow_sub-result-2 : goal.overflow_sub-result-2
+overflow_sub-result-2 c = omega (arith, (eligible_true c.args.r c.args.a c.args.d c.requires.1).0)
+
+pub returns : goal.returns
+unfolding served
+returns c = refl

@@ -1,0 +1,12 @@
+use mathlib.Core.Path.{sym, ◌∙◌}
+use Rattle.terms.specs.Refusals.{gate}
+use Rattle.terms.specs.Table.{held_to}
+use Rattle.terms.proofs.bounds.Bounds.hold.Goals as goal
+
+pub returns-then-admits : goal.returns-then-admits
+unfolding held_to gate
+returns-then-admits c = rw (sym c.admits.ensures ∙ c.if-admits.true)
+
+pub returns : goal.returns
+unfolding held_to gate
+returns c = rw (sym c.admits.ensures ∙ c.if-admits.false)
