@@ -9,7 +9,7 @@ use Rattle.terms.specs.Queries as queries
 use Rattle.lead_parts.specs.Lead.{lead}
 use Rattle.table_bytes.specs.Reading.{read, stop}
 use Rattle.rule.specs.Calls.{Call, post, slot}
-use Rattle.cases.specs.Rows.{row, table, all_zero, Row, reading_number, writing_number, reading, admission, calling, running, leading, querying_figures, figures, floor, after, standing, number, bytes, read_as_lem, found, told, ran, led, told_figures, figured, floored}
+use Rattle.cases.specs.Rows.{row, table, all_zero, Row, reading_number, writing_number, reading, admission, calling, running, leading, querying_figures, figures, floor, after, standing, number, bytes, read_as, found, told, ran, led, told_figures, figured, floored}
 
 -- clause 16.1: table T
 unfoldable pub table_t : Table
@@ -59,9 +59,9 @@ bytes_t last = 4 ∷ 2 ∷ 1 ∷ 8 ∷ 1 ∷ 4 ∷ 1 ∷ 4 ∷ 1 ∷ last ∷ []
 unfoldable pub bench_rows : List Row
 bench_rows =
     -- clause 16.1
-    record { query = reading (bytes_t 7); written = read_as_lem accepted table_t }
+    record { query = reading (bytes_t 7); written = read_as accepted table_t }
     -- clause 16.2
-    ∷ record { query = reading (bytes_t 6); written = read_as_lem (refused (refusal_at 7 1)) all_zero }
+    ∷ record { query = reading (bytes_t 6); written = read_as (refused (refusal_at 7 1)) all_zero }
     -- the same as numbers, with B, R, wait and finish of place 1; and T itself
     ∷ record { query = admission table_t_short; written = found (fault (refusal_at 7 1)) }
     ∷ record { query = figures table_t_short 1 1; written = figured 8 3 3 7 }
@@ -132,5 +132,5 @@ bench_rows =
     ∷ record { query = admission (table_denominator 0); written = found (fault (refusal 1)) }
     ∷ record { query = admission (table_denominator 65536); written = found (fault (refusal 1)) }
     -- clause 16.13: no bytes
-    ∷ record { query = reading []; written = read_as_lem (refused (refusal 8)) all_zero }
+    ∷ record { query = reading []; written = read_as (refused (refusal 8)) all_zero }
     ∷ []

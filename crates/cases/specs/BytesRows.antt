@@ -11,7 +11,7 @@ use Rattle.terms.specs.Answers.{accepted, refused}
 use Rattle.table_bytes.specs.Reading.{read, stop}
 use Rattle.table_bytes.specs.Writing.{wrote}
 use Rattle.table_bytes.specs.Writing as write
-use Rattle.cases.specs.Rows.{row, table, fields, all_zero, Row, Reply, reading_number, writing_number, putting_number, taking_number, lending_number, reading, writing, number, bytes, put_as, taken_as, lent_as, read_as_lem, written_as}
+use Rattle.cases.specs.Rows.{row, table, fields, all_zero, Row, Reply, reading_number, writing_number, putting_number, taking_number, lending_number, reading, writing, number, bytes, put_as, taken_as, lent_as, read_as, written_as}
 use Rattle.cases.specs.BenchRows.{table_t, table_t_short, bytes_t}
 
 -- one place with every number at its largest, and its bytes: FF FF 03, 01, then FF FF 03, 80 80 80 08, FF 01, 80 80 80 80 04
@@ -67,7 +67,7 @@ unwritten t r = record { query = writing t (marked 3); written = written_as (wri
 
 -- a refused reading hands back a table whose every field is 0
 unfoldable pub unread : Refusal → Reply
-unread r = read_as_lem (refused r) all_zero
+unread r = read_as (refused r) all_zero
 
 -- clauses 3.1 and 3.2
 unfoldable pub number_rows : List Row
@@ -171,9 +171,9 @@ lend_rows =
 -- clauses 3.3 and 13.2
 unfoldable pub read_rows : List Row
 read_rows =
-    record { query = reading bytes_long; written = read_as_lem accepted table_long }
+    record { query = reading bytes_long; written = read_as accepted table_long }
     -- the largest N, which is one byte (clause 16.16); one byte fewer; the last of its places refused 3
-    ∷ record { query = reading (100 ∷ max_places ∷ bytes_places max_places); written = read_as_lem accepted table_full }
+    ∷ record { query = reading (100 ∷ max_places ∷ bytes_places max_places); written = read_as accepted table_full }
     ∷ record { query = reading (100 ∷ max_places ∷ bytes_places (max_places - 1) ++ 1 ∷ 100 ∷ 1 ∷ 144 ∷ []); written = unread (refusal 8) }
     ∷ record { query = reading (100 ∷ max_places ∷ bytes_places (max_places - 1) ++ 0 ∷ []); written = unread (refusal_at 3 (max_places - 1)) }
     -- D: 0 alone and 65,536 (80 80 04) are refused 1; 80 00 and FF FF FF FF 10 are refused 9, ahead of their own check

@@ -9,7 +9,7 @@ use Rattle.terms.specs.Answers.{accepted, refused}
 use Rattle.carrying.specs.Carry.{OldPlace, OldState, kept}
 use Rattle.rule.specs.Calls.{Call, post, slot}
 use Rattle.guarantees.specs.Counts.{state_after}
-use Rattle.cases.specs.Rows.{row, account, table, state_of, all_zero_state, Row, reading, reading_under, admission, admission_under, carrying, beside_old, Standing, standing, read_as_lem, found, started_as, ran_both}
+use Rattle.cases.specs.Rows.{row, account, table, state_of, all_zero_state, Row, reading, reading_under, admission, admission_under, carrying, beside_old, Standing, standing, read_as, found, started_as, ran_both}
 use Rattle.cases.specs.BenchRows.{table_t}
 use Rattle.cases.specs.RequestRows.{table_basin}
 
@@ -28,8 +28,8 @@ wide_table_rows =
     -- it was refused 2 and is accepted, as numbers and as bytes
     record { query = admission_under old_places table_one_more; written = found (fault (refusal 2)) }
     ∷ record { query = admission table_one_more; written = found faultless }
-    ∷ record { query = reading_under old_places bytes_one_more; written = read_as_lem (refused (refusal 2)) (no_table old_places) }
-    ∷ record { query = reading bytes_one_more; written = read_as_lem accepted table_one_more }
+    ∷ record { query = reading_under old_places bytes_one_more; written = read_as (refused (refusal 2)) (no_table old_places) }
+    ∷ record { query = reading bytes_one_more; written = read_as accepted table_one_more }
     ∷ []
 
 -- ---- old states

@@ -12,7 +12,7 @@ use Rattle.terms.specs.Chain as chains
 use Rattle.lead_parts.specs.Lead.{lead}
 use Rattle.table_bytes.specs.Writing as write
 use Rattle.rule.specs.Calls.{post, slot}
-use Rattle.cases.specs.Rows.{row, account, table, all_zero, all_zero_state, state_of, Row, reading, writing, admission, former_admission, carrying, starting, querying, running, leading, querying_figures, chaining, ordering, ordering_bytes, listing_of, standing, bytes, read_as_lem, written_as, found, started_as, answered, ran, led, told_figures, told_chain, ordered_as}
+use Rattle.cases.specs.Rows.{row, account, table, all_zero, all_zero_state, state_of, Row, reading, writing, admission, former_admission, carrying, starting, querying, running, leading, querying_figures, chaining, ordering, ordering_bytes, listing_of, standing, bytes, read_as, written_as, found, started_as, answered, ran, led, told_figures, told_chain, ordered_as}
 use Rattle.cases.specs.BenchRows.{log_nine}
 use Rattle.cases.specs.BytesRows.{marked, single, unwritten, unread}
 use Rattle.cases.specs.ListingRows.{header_text}
@@ -116,9 +116,9 @@ need_order_rows =
 -- clauses 13.2 and 13.6: n, b, j and L of a place, and behind them 17
 unfoldable pub need_bytes_rows : List Row
 need_bytes_rows =
-    record { query = reading (4 ∷ 1 ∷ 1 ∷ 8 ∷ 2 ∷ 8 ∷ []); written = read_as_lem accepted (single 4 1 8 2 8) }
+    record { query = reading (4 ∷ 1 ∷ 1 ∷ 8 ∷ 2 ∷ 8 ∷ []); written = read_as accepted (single 4 1 8 2 8) }
     ∷ record { query = reading (4 ∷ 1 ∷ 1 ∷ 7 ∷ 2 ∷ 8 ∷ []); written = unread (refusal_at 17 0) }
-    ∷ record { query = reading (4 ∷ 2 ∷ 1 ∷ 8 ∷ 1 ∷ 4 ∷ 1 ∷ 8 ∷ 2 ∷ 11 ∷ []); written = read_as_lem accepted (table_two (row 1 8 1 4) (row 1 8 2 11)) }
+    ∷ record { query = reading (4 ∷ 2 ∷ 1 ∷ 8 ∷ 1 ∷ 4 ∷ 1 ∷ 8 ∷ 2 ∷ 11 ∷ []); written = read_as accepted (table_two (row 1 8 1 4) (row 1 8 2 11)) }
     ∷ record { query = reading (4 ∷ 2 ∷ 1 ∷ 8 ∷ 1 ∷ 4 ∷ 1 ∷ 7 ∷ 2 ∷ 11 ∷ []); written = unread (refusal_at 17 1) }
     -- it is ahead of whatever stands behind its place: of the end of the bytes, of a number that is longer than it need be, and of 3
     ∷ record { query = reading (4 ∷ 2 ∷ 1 ∷ 7 ∷ 2 ∷ 8 ∷ []); written = unread (refusal_at 17 0) }

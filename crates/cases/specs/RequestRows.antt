@@ -8,7 +8,7 @@ use Rattle.terms.specs.Refusals.{faultless, fault, refusal, refusal_at}
 use Rattle.terms.specs.Answers.{accepted, refused}
 use Rattle.terms.specs.Queries as queries
 use Rattle.table_bytes.specs.Writing as writing
-use Rattle.cases.specs.Rows.{row, table, all_zero, Row, reading, admission, former_admission, querying_figures, both_finishes, ordering, ordering_bytes, after, read_as_lem, written_as, found, told_figures, finished, ordered_as, rows_of}
+use Rattle.cases.specs.Rows.{row, table, all_zero, Row, reading, admission, former_admission, querying_figures, both_finishes, ordering, ordering_bytes, after, read_as, written_as, found, told_figures, finished, ordered_as, rows_of}
 use Rattle.cases.specs.BenchRows.{table_t, table_t_short, table_five}
 
 -- clause 16.11's table with a rate of 3, this burst and a need of two transfers at place 1
@@ -34,8 +34,8 @@ finish_rows =
     record { query = admission (table_five 4); written = found faultless }
     ∷ record { query = former_admission (table_five 4); written = found (fault (refusal_at 7 1)) }
     ∷ record { query = admission (table_five 3); written = found (fault (refusal_at 7 1)) }
-    ∷ record { query = reading (5 ∷ 2 ∷ 1 ∷ 6 ∷ 1 ∷ 5 ∷ 2 ∷ 5 ∷ 1 ∷ 4 ∷ []); written = read_as_lem accepted (table_five 4) }
-    ∷ record { query = reading (5 ∷ 2 ∷ 1 ∷ 6 ∷ 1 ∷ 5 ∷ 2 ∷ 5 ∷ 1 ∷ 3 ∷ []); written = read_as_lem (refused (refusal_at 7 1)) all_zero }
+    ∷ record { query = reading (5 ∷ 2 ∷ 1 ∷ 6 ∷ 1 ∷ 5 ∷ 2 ∷ 5 ∷ 1 ∷ 4 ∷ []); written = read_as accepted (table_five 4) }
+    ∷ record { query = reading (5 ∷ 2 ∷ 1 ∷ 6 ∷ 1 ∷ 5 ∷ 2 ∷ 5 ∷ 1 ∷ 3 ∷ []); written = read_as (refused (refusal_at 7 1)) all_zero }
     -- its figure was 2 + 3 = 5; for three transfers it is 6/4 + 15/2 = 9 and was 2 + 8 = 10; for two it is 6/4 + 10/2, so 7, as it was
     ∷ record { query = both_finishes (table_five 4) 1 1; written = finished 4 5 }
     ∷ record { query = both_finishes (table_five 4) 1 2; written = finished 7 7 }

@@ -137,7 +137,7 @@ pub data Reply : Type 0 where
   taken_as : Reading → Reply
   -- how many bytes the number takes, how many were written, and the whole buffer afterwards
   lent_as : (takes wrote : ℕ) → (buffer : List ℕ) → Reply
-  read_as_lem : Answer → Table → Reply
+  read_as : Answer → Table → Reply
   -- how many bytes were written or why none, and the lent buffer afterwards
   written_as : WriteAnswer → (buffer : List ℕ) → Reply
   found : Verdict → Reply
@@ -182,8 +182,8 @@ reply (taking_number given) = taken_as (number_of given)
 reply (lending_number x room buffer) =
     let w = number_written x (take room buffer) in
     lent_as (length (number_bytes x)) w.wrote (w.buffer ++ drop room buffer)
-reply (reading given) = let r = read_table max_places given in read_as_lem r.answer r.table
-reply (reading_under limit given) = let r = read_table limit given in read_as_lem r.answer r.table
+reply (reading given) = let r = read_table max_places given in read_as r.answer r.table
+reply (reading_under limit given) = let r = read_table limit given in read_as r.answer r.table
 reply (writing t old) = let w = write_table max_places t old in written_as w.answer w.buffer
 reply (admission t) = found (admission_verdict max_places t)
 reply (admission_under limit t) = found (admission_verdict limit t)

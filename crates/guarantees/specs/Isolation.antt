@@ -35,7 +35,7 @@ concerning i (c ∷ cs) = keep (concerns i c) c (concerning i cs)
 pub data View : Type 0 where
   own : (stamp place : ℕ) → View
   other : (stamp : ℕ) → View
-  turned_down_lem : Refusal → View
+  turned_down : Refusal → View
   -- of a post, and never shown
   no_slot : View
 
@@ -43,7 +43,7 @@ unfoldable pub view : ℕ → Answer → View
 view m accepted = no_slot
 view m (granted stamp p) = pick (ltb p m) (own stamp p) (other stamp)
 view m (idle stamp) = other stamp
-view m (refused r) = turned_down_lem r
+view m (refused r) = turned_down r
 
 -- what the first m places are shown after a slot, accepted or refused
 pub record Shown : Type 0 where

@@ -1,10 +1,12 @@
 -- What is known of a place that may be asked about, and the ways out of a look at where the line stands. For any room.
 -- Assumes nothing.
-use mathlib.Core.Path.{◌≡◌, sym}
+use mathlib.Core.Path.{◌≡◌, refl, sym}
 use mathlib.Core.Bool.{true, false}
-use mathlib.Core.List.{List}
-use Prim.Native.Nat.{ℕ, ◌<◌}
+use mathlib.Core.List.{List, [], ◌∷◌}
+use Prim.Native.Nat.{ℕ, ◌≤◌, ◌<◌}
 use native.Mathlib.Omega.{arith}
+use lib.ListN.{length, set}
+use Rattle.lists.specs.Overwriting.{written_over}
 use Rattle.terms.specs.Table.{requestor_at}
 use Rattle.terms.specs.State.{State, account_at, sound, place_verdict}
 use Rattle.terms.specs.Refusals.{faultless, refusal, gate}
@@ -51,3 +53,10 @@ module _ (limit : ℕ) (s : State) where
   pub standing_looked : sound limit s ≡ true → looked (record { slot = s.slot.0; count = s.table.count }) ≡ standing limit s
   unfolding standing gate
   standing_looked ok = rw ok
+
+-- two numbers stored in front of a list
+pub head_stored : (old : List ℕ) (x y : ℕ) → 2 ≤ length old → set (set old 0 x) 1 y ≡ written_over (x ∷ y ∷ []) old
+unfolding written_over
+head_stored [] x y h = absurd (omega (arith, h))
+head_stored (a ∷ []) x y h = absurd (omega (arith, h))
+head_stored (a ∷ b ∷ old) x y h = refl

@@ -1,5 +1,5 @@
 // The bytes of the table that words are, in a lent buffer.
-ghost use Rattle.std.specs.Prelude.{◌≡◌, true, ◌+◌, ◌*◌, replicate};
+ghost use Rattle.std.specs.Prelude.{◌≡◌, true, ◌+◌, ◌*◌, length};
 ghost use Rattle.lists.specs.Overwriting.{written_over};
 ghost use Rattle.terms.specs.Limits.{max_places};
 ghost use Rattle.terms.specs.Refusals.{verdict_of};
@@ -14,14 +14,15 @@ use number_bytes::{MAX_NUMBERS, bytes_len, put_numbers};
 use terms::answers::WriteAnswer;
 use terms::refusals::{Cause, InputRefusal, Verdict};
 
-// The numbers of the table, in the order of its bytes; those past its last place are 0. Each fits 32 bits, since the table passed its checks.
-fn numbers_of_words(words: &[u64]) -> [u32; MAX_NUMBERS]
-    requires { Checked max_places words.now }
-    ensures { result ≡ written_over (table_numbers (table_in words.now)) (replicate (2 + 4 * max_places) 0) }
+// The numbers of the table, in the order of its bytes, into lent numbers, as many as the largest table has; those past its last place
+// stay as they were. Each fits 32 bits, since the table passed its checks. They are lent and not handed back: a value of that size would
+// be copied on the stack.
+fn numbers_of_words(words: &[u64], numbers: &mut [u32])
+    requires { Checked max_places words.now × (length numbers.old ≡ 2 + 4 * max_places) }
+    ensures { numbers.new ≡ written_over (table_numbers (table_in words.now)) numbers.old }
 {
     let d = denominator(words);
     let n = count(words);
-    let mut numbers = [0u32; MAX_NUMBERS];
     numbers[0] = d as u32;
     numbers[1] = n as u32;
     let mut p: usize = 0;
@@ -36,7 +37,6 @@ fn numbers_of_words(words: &[u64]) -> [u32; MAX_NUMBERS]
         numbers[at + 3] = l.0 as u32;
         p = p + 1;
     }
-    numbers
 }
 
 // The table's bytes from the buffer's start on; the bytes beyond are left as they were, and so are all of them if it is refused. What
@@ -48,7 +48,8 @@ pub fn write_words(words: &[u64], admission: Verdict, buffer: &mut [u8]) -> Writ
     match admission {
         Verdict::Fault(c) => WriteAnswer::Refused(c),
         Verdict::Faultless => {
-            let numbers = numbers_of_words(words);
+            let mut numbers = [0u32; MAX_NUMBERS];
+            numbers_of_words(words, &mut numbers);
             let used = 2 + 4 * count(words);
             let size = bytes_len(&numbers[0..used]);
             if buffer.len() < size {

@@ -1,0 +1,9 @@
+use mathlib.Core.Path.{sym}
+use Rattle.terms.proofs.Figures.{finish_within}
+use Rattle.admission.proofs.figures.finish_is_within.Goals as goal
+
+pub returns : goal.returns
+returns c =
+    let a = c.args in
+    let f = c.requires.0 in
+    sym (finish_within a.d a.bursts a.left a.n a.j.0 f.left_least f.rate_least a.within.0)

@@ -1,0 +1,7 @@
+use mathlib.Core.Path.{refl}
+use Rattle.terms.specs.Figures.{rounded_up}
+use Rattle.admission.proofs.figures.rounded_up.Goals as goal
+
+pub returns-clause-figure : goal.returns-clause-figure
+unfolding rounded_up
+returns-clause-figure c = (refl)

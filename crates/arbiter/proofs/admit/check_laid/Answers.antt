@@ -1,0 +1,11 @@
+use mathlib.Core.Path.{sym, ◌∙◌}
+use Rattle.terms.specs.Refusals.{gate}
+use Rattle.arbiter.proofs.admit.check_laid.Goals as goal
+
+pub returns-then-length_is_right : goal.returns-then-length_is_right
+unfolding gate
+returns-then-length_is_right c = rw (sym c.length_is_right.ensures ∙ c.if-length_is_right.true) c.check_offered.ensures
+
+pub returns : goal.returns
+unfolding gate
+returns c = rw (sym c.length_is_right.ensures ∙ c.if-length_is_right.false)

@@ -1,0 +1,18 @@
+use Prim.Native.Nat.{ℕ, ◌-◌}
+use mathlib.Core.List.{List}
+use Rattle.terms.specs.Limits.{max_places}
+use Rattle.terms.specs.Table.{requestors_of}
+use Rattle.terms.specs.Figures.{finish, most_finish}
+use Rattle.admission.specs.Checked.{table_in}
+use Rattle.chains.proofs.Walks.{Summed}
+use Rattle.chains.proofs.chain.chain_figure.Given as goal
+
+-- the finish figure of a place for one transfer
+abbrev pub figure_in : List ℕ → ℕ → ℕ
+figure_in words p = finish (table_in words).denominator (requestors_of (table_in words)) p 1
+
+abbrev pub invariant-loop-links : goal.invariant-loop-links
+invariant-loop-links l = Summed l.names (figure_in l.words) (table_in l.words).count (most_finish max_places) l.p l.sum l.at l.links
+
+abbrev pub decreases-loop-links : goal.decreases-loop-links
+decreases-loop-links l = l.n - l.links

@@ -1,0 +1,11 @@
+use Prim.Native.Nat.{◌-◌}
+use Rattle.terms.specs.Chain.{name_verdict}
+use Rattle.admission.specs.Checked.{table_in}
+use Rattle.chains.proofs.Tables.{Scanned}
+use Rattle.chains.proofs.following.check_names.Given as goal
+
+abbrev pub invariant-loop-p : goal.invariant-loop-p
+invariant-loop-p l = Scanned (name_verdict (table_in l.words).count l.names) l.words l.p
+
+abbrev pub decreases-loop-p : goal.decreases-loop-p
+decreases-loop-p l = l.n - l.p

@@ -1,0 +1,18 @@
+use borrow.Author.Rules.{rules}
+use Rattle.lines.specs.Lines.{header}
+use Rattle.lines.specs.Text.{line, spaced}
+use Rattle.lists.specs.Sums.{joined}
+use Rattle.std.proofs.Common.{rules}
+use Rattle.lines.proofs.lines.put_header.Goals as goal
+
+pub put-requires : goal.put-requires
+unfolding header line joined spaced
+put-requires c = c.requires
+
+pub returns-clause-wrote : goal.returns-clause-wrote
+unfolding header line joined spaced
+returns-clause-wrote c = search rules
+
+pub returns-clause-text : goal.returns-clause-text
+unfolding header line joined spaced
+returns-clause-text c = search rules

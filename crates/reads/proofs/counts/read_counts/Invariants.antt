@@ -1,0 +1,12 @@
+use mathlib.Core.Path.{◌≡◌}
+use Prim.Native.Nat.{◌-◌}
+use lib.ListN.{length}
+use Rattle.terms.specs.Limits.{max_places}
+use Rattle.reads.proofs.Counting.{Counting}
+use Rattle.reads.proofs.counts.read_counts.Given as goal
+
+abbrev pub invariant-loop-p : goal.invariant-loop-p
+invariant-loop-p l = (length l.initial.counts ≡ max_places) × Counting l.n l.bytes l.initial.counts l.counts l.p l.left
+
+abbrev pub decreases-loop-p : goal.decreases-loop-p
+decreases-loop-p l = l.n - l.p

@@ -1,0 +1,10 @@
+use Prim.Native.Nat.{◌-◌}
+use Rattle.layout.specs.Words.{state_of}
+use Rattle.soundness.proofs.Walk.{Held}
+use Rattle.soundness.proofs.soundness.places_hold.Given as goal
+
+abbrev pub invariant-loop-p : goal.invariant-loop-p
+invariant-loop-p l = Held l.d l.n (state_of l.words).table.requestors (state_of l.words).accounts l.rates l.room l.p
+
+abbrev pub decreases-loop-p : goal.decreases-loop-p
+decreases-loop-p l = l.n - l.p

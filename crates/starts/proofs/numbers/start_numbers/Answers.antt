@@ -1,0 +1,8 @@
+use mathlib.Core.Path.{ap, ◌∙◌}
+use Rattle.terms.specs.Limits.{max_places}
+use Rattle.layout.proofs.Stores.{right_stands}
+use Rattle.opening.proofs.Opened.{start_of}
+use Rattle.starts.proofs.numbers.start_numbers.Goals as goal
+
+pub returns : goal.returns
+returns c = c.start_laid.ensures.begun (right_stands max_places _ _ c.words-1.given c.requires.0) ∙ start_of _ _ _ _ c.words-1.given (ap (λ s. s.table) c.lay.ensures)
