@@ -3,7 +3,6 @@
 
 mod carry;
 mod chain;
-mod demand3;
 mod differential;
 mod installed;
 mod model;
@@ -11,4 +10,5 @@ mod needs;
 mod order;
 mod rooms;
 mod rows;
+mod service_bounds;
 mod support;
