@@ -27,8 +27,8 @@ pub record AsSlots (limit : ℕ) (s : State) (old : List ℕ) : Type 0 where
 abbrev pub RunIsSlots : Type 0
 RunIsSlots = (limit : ℕ) (s : State) (old : List ℕ) → Shaped limit s → (run limit s old).answer ≡ accepted → AsSlots limit s old
 
--- also after any calls from an accepted start (clause 6.2), whose state has its shape: so demand 3 speaks of the run, with `inside` its
--- slots
+-- also after any calls from an accepted start (clause 6.2), whose state has its shape: so the service bounds speak of the run, with
+-- `inside` its slots
 abbrev pub RunFromStart : Type 0
 RunFromStart = (limit : ℕ) (t : Table) (first : ℕ) → Accepted limit t first → (before : List Call) (old : List ℕ)
     → (run limit (state_after limit t first before) old).answer ≡ accepted → AsSlots limit (state_after limit t first before) old

@@ -1,7 +1,7 @@
--- DEMAND 3 (clauses 10.1 to 10.4), one claim about any list of posts and slots from an accepted start, whatever their order, places and
--- counts, those that are refused among them. A stretch of it is given by two lists: `before` leads to it, and `inside` holds its slots,
--- with the posts and refused calls that stand between them. A place enters it with the credit that it has where `inside` begins, since no
--- post changes a credit.
+-- The service bounds (clauses 10.1 to 10.4), one claim about any list of posts and slots from an accepted start, whatever their order,
+-- places and counts, those that are refused among them. A stretch of it is given by two lists: `before` leads to it, and `inside` holds
+-- its slots, with the posts and refused calls that stand between them. A place enters it with the credit that it has where `inside`
+-- begins, since no post changes a credit.
 use Rattle.std.specs.Prelude.{◌≡◌, List, ℕ, ◌+◌, ◌*◌, ◌≤◌, ◌<◌, take}
 use Rattle.lists.specs.Sums.{total}
 use Rattle.lists.specs.Runs

@@ -1,6 +1,6 @@
--- A start for firmware whose outcome is 0 is an accepted start of demand 3 (clauses 10.1 to 10.4), from a table's bytes and from a table
--- given as numbers alike, and an accepted one's outcome is 0. The limit is the room of the lent words. Demand 3 speaks of the calls by
--- value; that the exported calls in a row are these is Claims.CallsInARow.
+-- A start for firmware whose outcome is 0 is an accepted start, as in the service bounds (clauses 10.1 to 10.4), from a table's bytes and
+-- from a table given as numbers alike, and an accepted one's outcome is 0. The limit is the room of the lent words. The service bounds
+-- speak of the calls by value; that the exported calls in a row are these is Claims.CallsInARow.
 use Rattle.std.specs.Prelude.{◌≡◌, true, List, ℕ}
 use Rattle.terms.specs.Table.{Table}
 use Rattle.rule.specs.Calls.{Call}
@@ -15,7 +15,7 @@ use Rattle.guarantees.specs.ServiceBounds.{ServiceBounds}
 use Rattle.justrave.specs.Exported.{started, started_of}
 
 -- the start of this table is accepted, the words are those of the state that it hands back, and every list of calls from it keeps to
--- demand 3 (clauses 10.1 to 10.4)
+-- the service bounds (clauses 10.1 to 10.4)
 pub record Begins (limit : ℕ) (t : Table) (first : ℕ) (words : List ℕ) : Type 0 where
   pub start_accepted : Accepted limit t first
   pub words_are : words ≡ state_words (start_state limit t first)

@@ -1,6 +1,6 @@
 -- The exported call that puts a table in order: a refusal leaves what was lent, 255 tells a lent answer of a wrong length, an order that
 -- passes is found, and what was written with outcome 0 begins a line in any words that have room for its N: one with the requestors of the
--- list, for which demand 3 and the needs hold (clause 8.4).
+-- list, for which the service bounds and the needs hold (clause 8.4).
 use Rattle.std.specs.Prelude.{◌≡◌, true, List, [], ℕ, ◌≤◌, eqb, length, take, get_or}
 use Rattle.groups.specs.Groups.{max_number}
 use Rattle.groups.specs.Inverse.{Bytes}

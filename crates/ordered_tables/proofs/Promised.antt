@@ -1,4 +1,4 @@
--- A start from a table that was put in order is accepted, and so demand 3 and its needs hold of it. Assumes nothing.
+-- A start from a table that was put in order is accepted, and so the service bounds and its needs hold of it. Assumes nothing.
 use mathlib.Core.Path.{◌≡◌}
 use borrow.Author.Tests.{le-leb}
 use Rattle.terms.specs.Limits.{max_slot}

@@ -1,5 +1,5 @@
 -- Clause 8.4: a start from a table that was put in order is accepted at every first slot number up to its limit, and every list of calls
--- from it keeps to demand 3 (clauses 10.1 to 10.4) and to the table's needs (clause 10.5).
+-- from it keeps to the service bounds (clauses 10.1 to 10.4) and to the table's needs (clause 10.5).
 use Rattle.std.specs.Prelude.{◌≡◌, List, ℕ, ◌≤◌, length}
 use Rattle.terms.specs.Limits.{max_slot}
 use Rattle.terms.specs.Table.{Table, requestors_of, requestor_at}

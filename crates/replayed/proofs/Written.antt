@@ -1,4 +1,4 @@
--- What `replay` writes is what demand 3 speaks of. Assumes nothing.
+-- What `replay` writes is what the service bounds speak of. Assumes nothing.
 use mathlib.Core.Path.{◌≡◌, refl, ap, sym, ◌∙◌}
 use mathlib.Core.List.{List, [], ◌∷◌, ◌++◌, append_assoc}
 use Prim.Native.Nat.{ℕ, ◌+◌, ◌*◌, ◌≤◌}

@@ -1,5 +1,5 @@
--- Demand 3 (clauses 10.2 to 10.4) on the numbers of clause 10.8: what `replay`'s code wrote on one side, the floor and the ceiling on the
--- other.
+-- The service bounds (clauses 10.2 to 10.4) on the numbers of clause 10.8: what `replay`'s code wrote on one side, the floor and the
+-- ceiling on the other.
 use Rattle.std.specs.Prelude.{◌≡◌, List, [], ◌∷◌, ℕ, ◌+◌, ◌*◌, ◌≤◌, ◌<◌, ltb, eqb, length, take, drop}
 use Rattle.lists.specs.Choices.{pick, in_range}
 use Rattle.terms.specs.Table.{Table, requestors_of}
@@ -59,8 +59,8 @@ pub record Keeps (t : Table) (first : ℕ) (made : List Call) (state : State) (w
   pub stretch : (i m : ℕ) → i + m ≤ length made → Kept t first (take i made) (take m (drop i made)) (answers_written i m words)
 
 -- Clause 10.8. The contract of `replay` is the equation here: r is what the code handed back, and `words` what it left in the lent answers.
--- If it answers that it started, the state that it handed back is the rule's, and every stretch of the calls that it made keeps to demand 3
--- in the numbers that it wrote.
+-- If it answers that it started, the state that it handed back is the rule's, and every stretch of the calls that it made keeps to the
+-- service bounds in the numbers that it wrote.
 abbrev pub ReplayKeepsServiceBounds : Type 0
 ReplayKeepsServiceBounds =
     (limit : ℕ) (t : Table) (first : ℕ) (calls old : List ℕ) (r : StartResult) (words : List ℕ) → length t.requestors ≡ limit
