@@ -1,0 +1,9 @@
+use mathlib.Core.Path.{ap}
+use lib.ListN.{set}
+use Rattle.lists.specs.Overwriting.{written_over}
+use Rattle.terms.specs.Table.{Table, table_of}
+use Rattle.bench_parts.proofs.values.two_places.Goals as goal
+
+pub returns : goal.returns
+unfolding table_of written_over
+returns c = ap {A = Table} {B = Table} (λ t. record { denominator = t.denominator; count = t.count; requestors = set (set t.requestors 0 c.args.first) 1 c.args.second }) c.bare_table-t.ensures
