@@ -10,7 +10,7 @@ target/basin.bin: examples/basin.hex tools/bytes
 	@tools/bytes examples/basin.hex >$@.part
 	@mv $@.part $@
 
-test: ## the gate: proves everything from nothing, tries every must-fail edit, runs every program and test
+test: ## the gate: proves everything, tries every must-fail edit, runs every program and test
 	@.ci/run
 
 library: ## proves and builds the static library for C and Rust: target/staticlib/libjustrave.a

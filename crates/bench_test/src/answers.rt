@@ -139,7 +139,7 @@ fn distance(x: i64) -> u64 {
 fn tell_lead(rt: &impl Print, x: i64) -> io::Result<()> {
     let size = distance(x);
     if x < 0 {
-        told(rt, printing::MINUS, size)?;
+        told(rt, printing::MINUS, size)
     } else {
         number(rt, size)
     }

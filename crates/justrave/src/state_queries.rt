@@ -40,12 +40,7 @@ pub fn justrave_figures(state: &[u64], place: usize, j: u64, answer: &mut [u64])
 
 // The answer is the chain figure of the place (clause 9.2). The names are one byte for each place that the words have room for: the place
 // that it follows, or 255 for nobody; those past the table's places are not read. Refused: 255, 23, 11, 16 (clause 13.12).
-pub fn justrave_chain(
-    state: &[u64],
-    place: usize,
-    names: &[u8],
-    answer: &mut [u64],
-) -> u64
+pub fn justrave_chain(state: &[u64], place: usize, names: &[u8], answer: &mut [u64]) -> u64
     ensures { record { answer = answer.new; outcome = result } ≡ chained max_places state.now place names.now answer.old }
 {
     if !lengths_hold(state, answer.len() == 1) {

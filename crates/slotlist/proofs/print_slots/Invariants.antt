@@ -1,0 +1,10 @@
+use mathlib.Core.Path.{◌≡◌}
+use Prim.Native.Nat.{◌+◌, ◌*◌, ◌≤◌, min}
+use lib.ListN.{length}
+use Rattle.slotlist.proofs.print_slots.Given as goal
+
+abbrev pub invariant-loop-wrote : goal.invariant-loop-wrote
+invariant-loop-wrote g l = (length l.page ≡ length l.initial.page) × (l.at ≤ length l.page)
+
+abbrev pub decreases-loop-wrote : goal.decreases-loop-wrote
+decreases-loop-wrote g l = 2 * length l.left + min l.at 1
