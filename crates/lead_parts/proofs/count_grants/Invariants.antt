@@ -1,3 +1,4 @@
+-- `lead_parts::count_grants` meets its contract. The loop's invariant, `Counted`: of the first i bytes, k are p. Assumes nothing.
 use Prim.Native.Nat.{◌-◌}
 use lib.ListN.{length}
 use Rattle.lead_parts.proofs.Counts.{Counted}

@@ -1,3 +1,5 @@
+-- `number_bytes::put_numbers` meets its contract. The loop's invariant, `Written`: the bytes of the first i numbers stand in front
+-- of what the buffer held, up to `at`. Assumes nothing.
 use Prim.Native.Nat.{◌-◌}
 use lib.ListN.{length}
 use Rattle.number_bytes.proofs.Counts.{Written}

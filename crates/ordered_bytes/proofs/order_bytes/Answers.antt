@@ -1,3 +1,5 @@
+-- `ordered_bytes::order_bytes` meets its contract. What was put in order passes admission, so that the writer's checks leave 14. Assumes
+-- nothing.
 use mathlib.Core.Path.{◌≡◌, refl, ap, sym, ◌∙◌}
 use lib.ListN.{length, replicate}
 use Rattle.terms.specs.Limits.{max_places}

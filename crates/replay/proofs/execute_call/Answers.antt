@@ -1,3 +1,4 @@
+-- `replay::execute_call` meets its contract. 0 is a slot, any other number a post. Assumes nothing.
 use Rattle.replay.specs.Replay.{call_of}
 use Rattle.replay.proofs.Replays.{call_post}
 use Rattle.replay.proofs.execute_call.Goals as goal

@@ -1,3 +1,4 @@
+-- `replay::execute_calls` meets its contract. The loop's invariant, `Standing`: state and lent numbers are those of the run of the first i calls. Assumes nothing.
 use Prim.Native.Nat.{◌-◌}
 use Rattle.terms.specs.Limits.{max_places}
 use Rattle.arbiter.specs.ByValue.{held}

@@ -1,3 +1,4 @@
+-- `replay::replay` meets its contract. A refused start makes no call; an accepted one makes them all. Assumes nothing.
 use Rattle.terms.specs.Limits.{max_places}
 use Rattle.arbiter.specs.ByValue.{held, given}
 use Rattle.replay.proofs.Replays.{replay_refused, replay_started}

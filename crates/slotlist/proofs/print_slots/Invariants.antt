@@ -1,3 +1,5 @@
+-- `slotlist::print_slots` meets its contract. The loop's invariant: what is gathered ends inside the page. Each turn takes a byte of the
+-- input or empties the page. Assumes nothing.
 use mathlib.Core.Path.{◌≡◌}
 use Prim.Native.Nat.{◌+◌, ◌*◌, ◌≤◌, min}
 use lib.ListN.{length}

@@ -1,3 +1,4 @@
+-- `slotlist::read_input` meets its contract. The loop's invariant: at most as many bytes as the room has. Assumes nothing.
 use mathlib.Core.Path.{◌≡◌}
 use Prim.Native.Nat.{◌-◌, ◌≤◌}
 use lib.ListN.{length}

@@ -1,3 +1,4 @@
+-- `admission::checks::check_rate_sum` meets its contract. One gate. Assumes nothing.
 use mathlib.Core.Path.{◌≡◌, ap, ◌∙◌}
 use native.Mathlib.Omega.{arith}
 use borrow.Author.Tests.{le-leb, lt-leb}

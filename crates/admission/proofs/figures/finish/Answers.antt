@@ -1,3 +1,5 @@
+-- `admission::figures::finish` meets its contract. Checks 1 to 6 keep the parts within their limits, and they are those of the table's row.
+-- Assumes nothing.
 use mathlib.Core.Path.{◌≡◌, ◌∙◌}
 use native.Mathlib.Omega.{arith}
 use Rattle.terms.specs.Limits.{max_places}

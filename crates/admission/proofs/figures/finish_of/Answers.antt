@@ -1,3 +1,5 @@
+-- `admission::figures::finish_of` meets its contract. Parts within their limits keep every product far inside 64 bits, and the figure is
+-- the definition's own quotient. Assumes nothing.
 use native.Mathlib.Omega.{arith}
 use Rattle.terms.specs.Limits.{max_places}
 use Rattle.terms.proofs.Figures.{finish_most}

@@ -1,3 +1,5 @@
+-- `admission::figures::wait` meets its contract. Checks 1 to 6 leave R at least 1, and the sums are those of the rows of the table.
+-- Assumes nothing.
 use mathlib.Core.Path.{◌≡◌, sym, ap₂, ◌∙◌}
 use Prim.Native.Nat.{◌-◌}
 use native.Mathlib.Omega.{arith}

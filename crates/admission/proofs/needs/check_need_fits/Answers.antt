@@ -1,3 +1,4 @@
+-- `admission::needs::check_need_fits` meets its contract. The row's own limits say that the product fits; then one gate. Assumes nothing.
 use mathlib.Core.Path.{sym, ◌∙◌}
 use native.Mathlib.Omega.{arith}
 use Rattle.terms.specs.Refusals.{gate}

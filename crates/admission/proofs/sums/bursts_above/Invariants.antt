@@ -1,3 +1,4 @@
+-- `admission::sums::bursts_above` meets its contract. The loop's invariant: the sum of the bursts above place q. Assumes nothing.
 use Prim.Native.Nat.{◌-◌, ◌≤◌}
 use Rattle.terms.specs.Table.{burst}
 use Rattle.admission.proofs.Walks.{Summed}

@@ -1,3 +1,4 @@
+-- `admission::sums::rates_above` meets its contract. The loop's invariant: the sum of the rates above place q. Assumes nothing.
 use Prim.Native.Nat.{◌-◌, ◌≤◌}
 use Rattle.terms.specs.Table.{rate}
 use Rattle.admission.proofs.Walks.{Summed}

@@ -1,3 +1,4 @@
+-- `arbiter::admit::admit` meets its contract. The length first. Assumes nothing.
 use mathlib.Core.Path.{sym, ◌∙◌}
 use Rattle.terms.specs.Refusals.{gate}
 use Rattle.arbiter.proofs.admit.admit.Goals as goal

@@ -1,3 +1,4 @@
+-- `arbiter::admit::check_laid` meets its contract. The length first. Assumes nothing.
 use mathlib.Core.Path.{sym, ◌∙◌}
 use Rattle.terms.specs.Refusals.{gate}
 use Rattle.arbiter.proofs.admit.check_laid.Goals as goal

@@ -1,3 +1,4 @@
+-- `arbiter::checks::check_limits` meets its contract. D and N are words, held to their bounds. Assumes nothing.
 use mathlib.Core.Path.{◌≡◌, ap, ap₂, ◌∙◌}
 use Rattle.terms.specs.Limits.{max_places}
 use Rattle.terms.specs.Refusals.{then}

@@ -1,3 +1,5 @@
+-- `arbiter::checks::check_offered` meets its contract. D and N first, since the rest reads as many rows as N says; then the tail and
+-- the rows; the rates are added up where all of these found nothing, so that their sum fits. Assumes nothing.
 use mathlib.Core.Path.{◌≡◌, ap, ap₂, sym, ◌∙◌}
 use native.Mathlib.Omega.{arith}
 use Rattle.terms.specs.Limits.{max_places}

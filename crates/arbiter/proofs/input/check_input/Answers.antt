@@ -1,3 +1,4 @@
+-- `arbiter::input::check_input` meets its contract. One gate. Assumes nothing.
 use mathlib.Core.Path.{sym}
 use borrow.Author.Tests.{lt-leb, le-leb}
 use Rattle.terms.specs.Limits.{max_input}

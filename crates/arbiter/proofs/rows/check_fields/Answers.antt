@@ -1,3 +1,5 @@
+-- `arbiter::rows::check_fields` meets its contract. Four numbers held to their bounds, joined in the order of the definition. Assumes
+-- nothing.
 use mathlib.Core.Path.{◌∙◌}
 use Rattle.terms.specs.Table.{fields_verdict}
 use Rattle.terms.proofs.Checks.{held_by}

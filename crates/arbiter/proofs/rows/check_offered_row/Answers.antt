@@ -1,3 +1,4 @@
+-- `arbiter::rows::check_offered_row` meets its contract. 17 is tested where 3, 4 and 5 found no fault. Assumes nothing.
 use Rattle.terms.specs.Refusals.{then}
 use Rattle.terms.specs.Table.{offered_row_verdict}
 use Rattle.arbiter.proofs.rows.check_offered_row.Goals as goal

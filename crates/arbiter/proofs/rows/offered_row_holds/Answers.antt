@@ -1,3 +1,4 @@
+-- `arbiter::rows::offered_row_holds` meets its contract. The row's own checks, and where they pass 17. Assumes nothing.
 use mathlib.Core.Path.{ap, sym, ◌∙◌}
 use mathlib.Core.Bool.{◌&&◌}
 use native.Mathlib.Omega.{arith}

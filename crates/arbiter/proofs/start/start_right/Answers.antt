@@ -1,3 +1,4 @@
+-- `arbiter::start::start_right` meets its contract. Admission, then 12; an accepted start opens every account. Assumes nothing.
 use borrow.Author.Tests.{le-leb, lt-leb}
 use Rattle.terms.specs.Limits.{max_slot}
 use Rattle.terms.specs.Refusals.{gate, then}

@@ -1,3 +1,4 @@
+-- `arbiter::table::lay_table` meets its contract. The loop's invariant: D and N are laid, and so are the first p rows. Assumes nothing.
 use Prim.Native.Nat.{◌-◌}
 use Rattle.terms.specs.Limits.{max_places}
 use Rattle.layout.proofs.Laid.{Laying}

@@ -1,3 +1,4 @@
+-- `arbiter::table::table_of` meets its contract. The loop's invariant: the first p rows are those of the words. Assumes nothing.
 use mathlib.Core.Path.{◌≡◌}
 use mathlib.Core.List.{◌++◌}
 use Prim.Native.Nat.{◌-◌}

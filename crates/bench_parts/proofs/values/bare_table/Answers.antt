@@ -1,3 +1,4 @@
+-- `bench_parts::values::bare_table` meets its contract. Every row is the one of zeros. Assumes nothing.
 use mathlib.Core.Path.{ap}
 use lib.ListN.{replicate}
 use Rattle.lists.specs.Overwriting.{written_over}

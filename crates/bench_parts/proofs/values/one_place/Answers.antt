@@ -1,3 +1,4 @@
+-- `bench_parts::values::one_place` meets its contract. One row is stored. Assumes nothing.
 use mathlib.Core.Path.{ap}
 use lib.ListN.{set}
 use Rattle.lists.specs.Overwriting.{written_over}

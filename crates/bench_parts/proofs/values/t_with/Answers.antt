@@ -1,3 +1,4 @@
+-- Proves `values::t_with`: each store is the state with that one thing changed. Assumes nothing.
 use mathlib.Core.Path.{◌≡◌, ap, sym, ◌∙◌}
 use mathlib.Core.List.{List}
 use Prim.Native.Nat.{ℕ}

@@ -1,3 +1,4 @@
+-- `bench_parts::values::two_places` meets its contract. Two rows are stored. Assumes nothing.
 use mathlib.Core.Path.{ap}
 use lib.ListN.{set}
 use Rattle.lists.specs.Overwriting.{written_over}

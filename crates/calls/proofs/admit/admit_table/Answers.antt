@@ -1,3 +1,4 @@
+-- `calls::admit::admit_table` meets its contract. The table is laid into words, and the checks know words only. Assumes nothing.
 use mathlib.Core.Path.{◌≡◌, ap, ap₂, ◌∙◌}
 use lib.ListN.{length}
 use Rattle.terms.specs.Limits.{max_places}

@@ -1,3 +1,5 @@
+-- `calls::carry::carry` meets its contract: an old state by value has the old limit's room, and the words are as long as an arbiter's.
+-- Assumes nothing.
 use mathlib.Core.Path.{◌≡◌, refl, ap₂, ◌∙◌}
 use mathlib.Core.List.{List}
 use Prim.Native.Nat.{ℕ}

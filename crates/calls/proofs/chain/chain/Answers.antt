@@ -1,3 +1,4 @@
+-- `calls::chain::chain` meets its contract. The room of its words is the largest N. Assumes nothing.
 use mathlib.Core.Path.{◌∙◌}
 use Rattle.terms.specs.Chain.{chain}
 use Rattle.arbiter.proofs.ByValue.{right_full, query_held}

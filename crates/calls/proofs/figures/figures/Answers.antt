@@ -1,3 +1,4 @@
+-- `calls::figures::figures` meets its contract. The room of its words is the largest N. Assumes nothing.
 use Rattle.terms.specs.Queries.{figures}
 use mathlib.Core.Path.{◌∙◌}
 use Rattle.arbiter.proofs.ByValue.{right_full, query_held}

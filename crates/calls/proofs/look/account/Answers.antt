@@ -1,3 +1,4 @@
+-- `calls::look::account` meets its contract. The room of its words is the largest N. Assumes nothing.
 use Rattle.queries.specs.Look.{account_query}
 use mathlib.Core.Path.{◌∙◌}
 use Rattle.arbiter.proofs.ByValue.{right_full, query_held}

@@ -1,3 +1,4 @@
+-- `calls::read::read_table` meets its contract. A start at slot 0 reads what a reading does. Assumes nothing.
 use mathlib.Core.Path.{refl, ap, ap₂, ◌∙◌}
 use mathlib.Core.List.{List}
 use Prim.Native.Nat.{ℕ}

@@ -1,3 +1,4 @@
+-- `calls::run::run` meets its contract. The room of its words is the largest N. Assumes nothing.
 use mathlib.Core.Path.{◌∙◌}
 use Rattle.rule.specs.Log.{run}
 use Rattle.arbiter.proofs.ByValue.{right_full, query_held}

@@ -1,3 +1,4 @@
+-- `calls::slot::slot` meets its contract. The room of its words is the largest N. Assumes nothing.
 use Rattle.rule.specs.Calls.{slot, called}
 use mathlib.Core.Path.{◌∙◌}
 use Rattle.arbiter.proofs.ByValue.{right_full, query_held}

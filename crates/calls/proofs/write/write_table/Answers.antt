@@ -1,3 +1,4 @@
+-- `calls::write::write_table` meets its contract. The table is laid into words, admitted, and written from them. Assumes nothing.
 use mathlib.Core.Path.{◌≡◌, ap, ap₂, ◌∙◌}
 use lib.ListN.{length}
 use Rattle.terms.specs.Limits.{max_places}

@@ -1,3 +1,5 @@
+-- `carrying::carry::carry_words` meets its contract: test 23 on the words that the old state was laid into is that of the old state.
+-- Assumes nothing.
 use mathlib.Core.Path.{sym, ◌∙◌}
 use native.Mathlib.Omega.{arith}
 use Rattle.terms.specs.Limits.{max_places, old_places}

@@ -1,3 +1,4 @@
+-- `chains::following::check_following` meets its contract. Assumes nothing.
 use mathlib.Core.Path.{ap, sym, ◌∙◌}
 use Rattle.terms.specs.Refusals.{verdict_of}
 use Rattle.terms.specs.Chain.{names_verdict, circles_verdict, following_verdict}

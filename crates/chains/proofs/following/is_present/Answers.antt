@@ -1,3 +1,4 @@
+-- `chains::following::is_present` meets its contract. Assumes nothing.
 use mathlib.Core.Path.{sym, ap}
 use Rattle.terms.specs.Chain.{present}
 use Rattle.chains.proofs.Names.{named_nobody, named_place}

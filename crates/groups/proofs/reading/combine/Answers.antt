@@ -1,3 +1,5 @@
+-- `groups::reading::combine` meets its contract. The number above is at most 33,554,431 exactly when the whole is at most 4,294,967,295.
+-- Assumes nothing.
 use Prim.Native.Nat.{◌+◌, ◌-◌, ◌*◌}
 use native.Mathlib.Omega.{arith}
 use native.Mathlib.Numerals.{add-one}

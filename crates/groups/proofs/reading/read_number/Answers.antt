@@ -1,4 +1,4 @@
--- The byte at hand, and then the reading of the rest of the bytes.
+-- `groups::reading::read_number` meets its contract. The first byte, and then the groups that follow it. Assumes nothing.
 use Rattle.std.proofs.Common.{arith, sym, refl}
 use Rattle.groups.specs.Groups.{max_later}
 use Rattle.groups.proofs.Readings.{number_ended, number_one, number_more, later_few}

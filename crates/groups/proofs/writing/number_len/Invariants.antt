@@ -1,3 +1,5 @@
+-- `groups::writing::number_len` meets its contract. The loop's invariant: after so many groups this is the rest of the number. The measure
+-- is the rest. Assumes nothing.
 use Rattle.groups.proofs.Writings.{Counted}
 use Rattle.groups.proofs.writing.number_len.Given as goal
 

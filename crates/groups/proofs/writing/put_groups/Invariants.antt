@@ -1,3 +1,5 @@
+-- `groups::writing::put_groups` meets its contract. The loop's invariant: the first k groups stand in front of what the buffer held,
+-- and this is the rest of the number. The measure is the rest. Assumes nothing.
 use Rattle.groups.proofs.Writings.{Put}
 use Rattle.groups.proofs.writing.put_groups.Given as goal
 

@@ -1,3 +1,4 @@
+-- `groups::writing::write_number` meets its contract. The room is asked for first; then the groups are put. Assumes nothing.
 use Prim.Native.Nat.{◌≤◌}
 use native.Mathlib.Omega.{arith}
 use lib.ListN.{length}

@@ -1,3 +1,4 @@
+-- `lines::lines::put_end` meets its contract. The word and the number of slots. Assumes nothing.
 use borrow.Author.Rules.{rules}
 use Rattle.lines.specs.Lines.{end_line}
 use Rattle.std.proofs.Common.{rules}

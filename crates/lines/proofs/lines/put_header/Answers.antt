@@ -1,3 +1,4 @@
+-- `lines::lines::put_header` meets its contract. The bytes are the header's. Assumes nothing.
 use borrow.Author.Rules.{rules}
 use Rattle.lines.specs.Lines.{header}
 use Rattle.lines.specs.Text.{line, spaced}

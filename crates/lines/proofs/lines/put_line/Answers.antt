@@ -1,3 +1,4 @@
+-- `lines::lines::put_line` meets its contract. A word, an item and a line feed. Assumes nothing.
 use native.Mathlib.Omega.{arith}
 use lib.ListN.{length-append}
 use Rattle.lists.proofs.Putting.{put_first, put_inside, put_room, put_next, put_byte, put_length, put_whole}

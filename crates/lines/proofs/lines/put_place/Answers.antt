@@ -1,3 +1,4 @@
+-- `lines::lines::put_place` meets its contract. By the grant. Assumes nothing.
 use borrow.Author.Rules.{rules}
 use Rattle.lines.specs.Text.{spaced}
 use Rattle.std.proofs.Common.{rules}

@@ -1,3 +1,4 @@
+-- `lines::lines::put_refused` meets its contract. The word and the refusal's number. Assumes nothing.
 use mathlib.Core.Path.{ap}
 use Rattle.lists.proofs.Putting.{put_named}
 use Rattle.lines.specs.Lines.{refused_line}

@@ -1,3 +1,4 @@
+-- `lines::lines::put_slot` meets its contract. Stamp, place, credits and a line feed, one behind the other. Assumes nothing.
 use mathlib.Core.List.{◌++◌}
 use native.Mathlib.Omega.{arith}
 use lib.ListN.{length-append}

@@ -1,3 +1,4 @@
+-- `lines::text::put` meets its contract. The loop's invariant: the first i bytes of the text stand in the buffer. Assumes nothing.
 use Prim.Native.Nat.{◌-◌}
 use lib.ListN.{length}
 use Rattle.lines.proofs.Writing.{Copied}

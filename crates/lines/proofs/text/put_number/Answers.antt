@@ -1,3 +1,4 @@
+-- `lines::text::put_number` meets its contract. By io's digits. Assumes nothing.
 use native.Mathlib.Omega.{arith}
 use Rattle.lines.proofs.Digits.{decimal_put}
 use Rattle.lists.proofs.Putting.{put_named}

@@ -1,3 +1,4 @@
+-- `listing::post_and_slot::post_and_slot` meets its contract. By what the posts answer. Assumes nothing.
 use mathlib.Core.Path.{ap}
 use Rattle.terms.specs.Answers.{post_answer_of}
 use Rattle.listing.proofs.Posting.{post_and_slot_accepted, post_and_slot_stop}

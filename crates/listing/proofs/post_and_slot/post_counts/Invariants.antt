@@ -1,3 +1,4 @@
+-- `listing::post_and_slot::post_counts` meets its contract. The loop's invariant: what is left to post comes to the same as all of it. Assumes nothing.
 use Prim.Native.Nat.{◌-◌}
 use lib.ListN.{length}
 use Rattle.terms.specs.Limits.{max_places}

@@ -1,3 +1,4 @@
+-- `listing::steps::first_step` meets its contract. The header, and by what the beginning answers. Assumes nothing.
 use mathlib.Core.List.{◌++◌}
 use mathlib.Core.Path.{ap, sym, ◌∙◌}
 use native.Mathlib.Omega.{arith}

@@ -1,3 +1,4 @@
+-- `listing::steps::refuse` meets its contract. The refusal's line fits, and is the step's. Assumes nothing.
 use Rattle.terms.specs.Refusals.{refusal_of}
 use Rattle.arbiter.specs.ByValue.{held}
 use Rattle.listing.proofs.Telling.{refused_fits, written_out_text, wrote_inside}

@@ -1,3 +1,4 @@
+-- `listing::steps::slot_step` meets its contract. By what the reading of the counts answers. Assumes nothing.
 use mathlib.Core.Path.{◌≡◌, ap, sym, ◌∙◌}
 use Prim.Native.Nat.{◌≤◌}
 use lib.Seq.{length-take-le}

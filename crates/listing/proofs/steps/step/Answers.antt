@@ -1,3 +1,4 @@
+-- `listing::steps::step` meets its contract. By its tests. Assumes nothing.
 use mathlib.Core.Path.{◌≡◌, ap, sym, ◌∙◌}
 use native.Mathlib.Omega.{arith}
 use lib.ListN.{length}

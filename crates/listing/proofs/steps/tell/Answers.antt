@@ -1,3 +1,4 @@
+-- `listing::steps::tell` meets its contract. By what the slot answered. Assumes nothing.
 use mathlib.Core.Path.{◌≡◌}
 use native.Mathlib.Omega.{arith}
 use borrow.Author.Rules.{rules}

@@ -1,3 +1,4 @@
+-- `ordering::order::order` meets its contract. The table is laid into words, put in order there, and handed back from them. Assumes nothing.
 use mathlib.Core.Path.{◌≡◌, ap, ap₂, ◌∙◌}
 use lib.ListN.{length}
 use Rattle.terms.specs.Limits.{max_places}

@@ -1,3 +1,4 @@
+-- `ordering::refusing::turn_down` meets its contract. Words that are all 0 are the state that is all 0. Assumes nothing.
 use mathlib.Core.Path.{ap}
 use Rattle.terms.specs.Refusals.{refusal_of}
 use Rattle.terms.specs.Answers.{refused}

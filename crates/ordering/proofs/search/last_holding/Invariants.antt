@@ -1,3 +1,4 @@
+-- `ordering::search::last_holding` meets its contract. The loop's invariant: none of those from i on holds. Assumes nothing.
 use mathlib.Core.Path.{◌≡◌}
 use Prim.Native.Nat.{◌≤◌}
 use lib.ListN.{take}

@@ -1,3 +1,4 @@
+-- `ordering::search::need_holds` meets its contract. The sums less its own are those of the others. Assumes nothing.
 use mathlib.Core.Path.{◌∙◌}
 use Rattle.terms.specs.Limits.{max_places}
 use Rattle.admission.proofs.Rows.{denominator_word, head_there}

@@ -1,3 +1,5 @@
+-- `queries::figures::figures_words` meets its contract. In a sound state the table passes checks 1 to 6, so that the wait and the finish
+-- figure can be worked out. Assumes nothing.
 use mathlib.Core.Path.{◌≡◌, ap, ap₂, sym, ◌∙◌}
 use Prim.Native.Nat.{◌≤◌, ◌<◌}
 use Rattle.terms.specs.Limits.{max_places, max_need}

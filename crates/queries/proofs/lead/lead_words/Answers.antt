@@ -1,3 +1,5 @@
+-- `queries::lead::lead_words` meets its contract. In a sound state D and the place's rate are at most the largest denominator, so that with a
+-- log that passes 13 the difference fits. Assumes nothing.
 use mathlib.Core.Path.{◌≡◌, ap, ap₂, sym, ◌∙◌}
 use Prim.Native.Nat.{◌≤◌}
 use native.Mathlib.Omega.{arith}

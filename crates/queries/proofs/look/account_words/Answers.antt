@@ -1,3 +1,4 @@
+-- `queries::look::account_words` meets its contract. A place that passes 23 and 11 has its account among the words. Assumes nothing.
 use mathlib.Core.Path.{◌≡◌, ap, sym, ◌∙◌}
 use Rattle.terms.specs.Limits.{max_places}
 use Rattle.terms.specs.Refusals.{verdict_of, faultless}

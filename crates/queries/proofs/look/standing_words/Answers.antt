@@ -1,3 +1,4 @@
+-- `queries::look::standing_words` meets its contract. The slot number and N are words of the head. Assumes nothing.
 use mathlib.Core.Path.{sym, ◌∙◌}
 use Rattle.terms.specs.Limits.{max_places}
 use Rattle.layout.specs.Words.{words_state}

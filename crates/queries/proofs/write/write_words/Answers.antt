@@ -1,3 +1,6 @@
+-- `queries::write::write_words` meets its contract. By what admission found, then the room for the bytes; the numbers are put only
+-- where both pass.
+-- Assumes nothing.
 use mathlib.Core.Path.{◌≡◌, refl, ap, sym, ◌∙◌}
 use Prim.Native.Nat.{◌+◌, ◌-◌, ◌*◌, ◌≤◌}
 use native.Mathlib.Omega.{arith}

@@ -1,3 +1,4 @@
+-- `reads::beginning::begin` meets its contract. By check 13. Assumes nothing.
 use mathlib.Core.Path.{ap, sym, ◌∙◌}
 use Rattle.terms.specs.Refusals.{verdict_of}
 use Rattle.reads.proofs.Beginnings.{input_refused, input_accepted}

@@ -1,3 +1,4 @@
+-- `reads::beginning::begin_at_0` meets its contract. By what the start answers. Assumes nothing.
 use mathlib.Core.Path.{◌≡◌, refl, ap, ◌∙◌}
 use mathlib.Core.List.{List}
 use Prim.Native.Nat.{ℕ}

@@ -1,3 +1,4 @@
+-- `reads::counts::read_counts` meets its contract. The loop's invariant: the first p counts are read. Assumes nothing.
 use mathlib.Core.Path.{◌≡◌}
 use Prim.Native.Nat.{◌-◌}
 use lib.ListN.{length}

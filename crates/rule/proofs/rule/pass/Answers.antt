@@ -1,3 +1,4 @@
+-- `rule::rule::pass` meets its contract. Waiting; not waiting and capped; not waiting and below the burst. Assumes nothing.
 use mathlib.Core.Path.{sym}
 use native.Mathlib.Omega.{arith}
 use Rattle.rule.proofs.Accounts.{passed_waiting, passed_capped, passed_below}

@@ -1,3 +1,5 @@
+-- `rule::rule::serve` meets its contract. An eligible place has a transfer waiting and credit and rate of at least D, so
+-- both differences fit. Assumes nothing.
 use mathlib.Core.Path.{refl}
 use native.Mathlib.Omega.{arith}
 use Rattle.rule.specs.Rule.{served}

@@ -1,3 +1,4 @@
+-- `soundness::place::check_place` meets its contract. Two gates. Assumes nothing.
 use mathlib.Core.Path.{◌≡◌, sym, ◌∙◌}
 use mathlib.Core.Bool.{true}
 use native.Mathlib.Omega.{arith}

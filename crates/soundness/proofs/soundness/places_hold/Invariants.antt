@@ -1,3 +1,4 @@
+-- `soundness::soundness::places_hold` meets its contract. The loop's invariant, `Held`: what the first p places have come to. Assumes nothing.
 use Prim.Native.Nat.{◌-◌}
 use Rattle.layout.specs.Words.{state_of}
 use Rattle.soundness.proofs.Walk.{Held}

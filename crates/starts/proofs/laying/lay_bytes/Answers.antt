@@ -1,3 +1,4 @@
+-- `starts::laying::lay_bytes` meets its contract. D, then N from what D left, and then the places from what N left. Assumes nothing.
 use mathlib.Core.Path.{ap, sym, ◌∙◌}
 use mathlib.Core.List.{List}
 use Prim.Native.Nat.{ℕ, ◌-◌}

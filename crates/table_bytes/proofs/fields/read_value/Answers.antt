@@ -1,3 +1,4 @@
+-- `table_bytes::fields::read_value` meets its contract. By what the number's reading says. Assumes nothing.
 use mathlib.Core.Path.{sym, ◌∙◌}
 use Rattle.table_bytes.proofs.Readings.{value_read}
 use Rattle.table_bytes.proofs.fields.read_value.Goals as goal

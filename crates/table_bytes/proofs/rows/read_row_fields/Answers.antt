@@ -1,3 +1,5 @@
+-- `table_bytes::rows::read_row_fields` meets its contract. Number after number: what is left of the bytes comes to the same as all of them.
+-- Assumes nothing.
 use Rattle.table_bytes.proofs.Readings.{took, turned_down_lem, reach_first, reach_next, reach_stop, stop_first, row_begins, reach_end}
 use Rattle.table_bytes.proofs.rows.read_row_fields.Goals as goal
 

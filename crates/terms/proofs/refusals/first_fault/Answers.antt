@@ -1,3 +1,4 @@
+-- `terms::refusals::first_fault` meets its contract. By the case of the first. Assumes nothing.
 use Rattle.terms.specs.Refusals.{then}
 use Rattle.terms.proofs.refusals.first_fault.Goals as goal
 

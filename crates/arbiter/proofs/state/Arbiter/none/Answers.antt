@@ -1,3 +1,4 @@
+-- `arbiter::state::Arbiter::none` meets its contract. Words that are all 0. Assumes nothing.
 use Rattle.terms.specs.Limits.{max_places}
 use Rattle.layout.specs.Words.{word_count, room_of_words}
 use Rattle.layout.proofs.Stores.{zero_state}

@@ -1,3 +1,4 @@
+-- `arbiter::state::Arbiter::start` meets its contract. The table is laid into words, and the start is made of them. Assumes nothing.
 use mathlib.Core.Path.{◌≡◌, ap, ap₂, ◌∙◌}
 use lib.ListN.{length}
 use Rattle.terms.specs.Limits.{max_places}

@@ -1,3 +1,4 @@
+-- `terms::bounds::Bounds::hold` meets its contract. One gate. Assumes nothing.
 use mathlib.Core.Path.{sym, ◌∙◌}
 use Rattle.terms.specs.Refusals.{gate}
 use Rattle.terms.specs.Table.{held_to}
