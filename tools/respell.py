@@ -16,7 +16,7 @@ DECL = re.compile(r"^\s*(?:(?:abbrev|unfoldable|opaque|irreducible|instance|priv
 HEAD = re.compile(r"^\s*(?:pub\s+)?(?:record|data)\s+(?:pub\s+)?([A-Za-z_][\w'-]*)")
 LIST = "tools/respelled.txt"
 
-# Names that would fall together, and a name that cited a paper by its number: chosen by hand.
+# Names that would fall together, and a name that was a number: chosen by hand.
 CHOSEN = {
     "Demand-3": "ServiceBoundsHold", "Demand3": "ServiceBounds", "demand-3": "service_bounds",
     "Bytes-begin-demand-3": "BytesBeginServiceBounds", "bytes-begin-demand-3": "bytes_begin_service_bounds",

@@ -3,7 +3,7 @@
 -- behind may be left away. So it is with any words of a right length, and not a sound state's alone: the others are 23 both ways. Those
 -- among them whose N is above their room are so with more room too, since the zeros that N then counts as a place are no requestor's: its
 -- rate is 0. A start can tell the room, by 2, where it is too little for N; and a carrying over, by 255. `most` is the largest N where the
--- zeros are put behind, and `old-most` where they are not: in one unit the same, and beside an old unit that one's.
+-- zeros are put behind, and `old_most` where they are not: in one unit the same, and beside an old unit that one's.
 use Rattle.std.specs.Prelude.{◌≡◌, true, List, ◌++◌, ℕ, ◌+◌, ◌*◌, ◌≤◌, ℤ, length, replicate}
 use Rattle.lists.specs.Runs.{end, answers}
 use Rattle.rule.specs.Calls.{Call}
