@@ -1,6 +1,5 @@
 -- How large the products under a finish figure can be, whose parts are within their limits. For any number of places. Assumes nothing.
-use Prim.Native.Nat.{ℕ, ◌*◌, ◌≤◌}
-use native.Mathlib.Nat.{mul-le-mul}
+use Rattle.std.proofs.Common.{ℕ, ◌*◌, ◌≤◌, mul-le-mul}
 use Rattle.terms.specs.Limits.{max_denominator, max_burst, max_need}
 use Rattle.admission.specs.Checked.{Parts}
 

@@ -1,13 +1,6 @@
 -- The table that words are, row by row; its sums above a place; and what is known of a place once checks 1 to 6 are passed. For any room.
 -- Assumes nothing.
-use mathlib.Core.Path.{◌≡◌, refl, ap, ◌∙◌}
-use mathlib.Core.Bool.{true}
-use mathlib.Core.List.{List}
-use Prim.Native.Nat.{ℕ, ◌+◌, ◌-◌, ◌*◌, ◌≤◌, ◌<◌}
-use native.Mathlib.Nat.{mul-le-mul_right}
-use native.Mathlib.Numerals.{add-one}
-use native.Mathlib.Omega.{arith}
-use lib.ListN.{length, take, get_or}
+use Rattle.std.proofs.Common.{◌≡◌, refl, ap, ◌∙◌, true, List, ℕ, ◌+◌, ◌-◌, ◌*◌, ◌≤◌, ◌<◌, mul-le-mul_right, add-one, arith, length, take, get_or}
 use Rattle.lists.specs.Sums.{total}
 use Rattle.lists.proofs.Sums.{total_take_suc}
 use Rattle.terms.specs.declared.place.Requestor.{Requestor}

@@ -1,12 +1,6 @@
 -- The walks over the rows of words. From place 0 on: a sum above a place, a check of the rows of places 0 to N−1, and check 7, which does
 -- both; from place N on: that the rows past the table are clear. For any room. Assumes nothing.
-use mathlib.Core.Path.{◌≡◌, refl, ap, sym, ◌∙◌}
-use mathlib.Core.Bool.{Bool, true, false}
-use mathlib.Core.List.{List}
-use Prim.Native.Nat.{ℕ, ◌+◌, ◌≤◌, ◌<◌}
-use native.Mathlib.Omega.{arith}
-use lib.Dec.{leb}
-use lib.ListN.{length, take, drop}
+use Rattle.std.proofs.Common.{◌≡◌, refl, ap, sym, ◌∙◌, Bool, true, false, List, ℕ, ◌+◌, ◌≤◌, ◌<◌, arith, leb, length, take, drop}
 use Rattle.lists.specs.Sums.{total, every}
 use Rattle.lists.proofs.Sums.{total_take_rises}
 use Rattle.lists.proofs.Tests.{true_false, every_pass, every_stop, every_end}

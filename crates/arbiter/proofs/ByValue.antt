@@ -1,10 +1,5 @@
 -- A state by value has room for the largest N, and is told by its words. Assumes nothing.
-use mathlib.Core.Path.{◌≡◌, ap, sym, ◌∙◌}
-use mathlib.Core.Bool.{true}
-use mathlib.Core.List.{List}
-use Prim.Native.Nat.{ℕ}
-use borrow.Author.Tests.{eq-eqb}
-use lib.ListN.{length}
+use Rattle.std.proofs.Common.{◌≡◌, ap, sym, ◌∙◌, true, List, ℕ, eq-eqb, length}
 use Rattle.terms.specs.Limits.{max_places}
 use Rattle.terms.specs.State.{State}
 use Rattle.layout.specs.Words.{word_count, room_of_words, right_length, state_words, state_of}

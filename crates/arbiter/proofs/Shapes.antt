@@ -1,11 +1,9 @@
 -- What a table or a state that is passed by value is known to be: its array has its length. The paths go by the order of the fields of
 -- both structs, and stand here alone. Assumes nothing.
-use mathlib.Core.Path.{◌≡◌}
-use mathlib.Core.List.{[], ◌∷◌}
+use Rattle.std.proofs.Common.{◌≡◌, [], ◌∷◌, length}
 use denote.Laws.{Is}
 use denote.Struct.Declared.{row}
 use denote.Struct.Laws.{val}
-use lib.ListN.{length}
 use Rattle.terms.specs.Limits.{max_places}
 use Rattle.arbiter.specs.declared.table.Table.{Table}
 use Rattle.arbiter.specs.declared.state.Arbiter.{Arbiter}

@@ -1,9 +1,5 @@
 -- Each way out of checks 1 to 6 with 17 among them. For any room. Assumes nothing.
-use mathlib.Core.Path.{◌≡◌, sym, ◌∙◌}
-use Prim.Native.Nat.{ℕ, ◌*◌, ◌≤◌}
-use native.Mathlib.Nat.{mul-le-mul}
-use native.Mathlib.Omega.{arith}
-use lib.ListN.{length, length-take}
+use Rattle.std.proofs.Common.{◌≡◌, sym, ◌∙◌, ℕ, ◌*◌, ◌≤◌, mul-le-mul, arith, length, length-take}
 use Rattle.lists.specs.Sums.{total}
 use Rattle.terms.specs.declared.refusals.Refusal.{Refusal}
 use Rattle.terms.specs.Table.{Table, denominator_bounds, count_bounds, held_to, rate, requestors_of, fields_verdict, offered_row_verdict, tail_verdict, rate_sum_verdict, verdict_by, offered_verdict}

@@ -1,9 +1,6 @@
 -- A state with clear rows and accounts behind its own: every query about it is answered as about the state. Assumes nothing.
-use mathlib.Core.Path.{◌≡◌, ◌∙◌}
-use mathlib.Core.List.{List, ◌++◌}
-use Prim.Native.Nat.{ℕ, ◌+◌, ◌≤◌}
-use native.Mathlib.Omega.{arith}
-use lib.ListN.{length, get_or-append}
+use Rattle.std.proofs.Common.{◌≡◌, ◌∙◌, List, ◌++◌, ℕ, ◌+◌, ◌≤◌, arith, length}
+use lib.ListN.{get_or-append}
 use Rattle.lists.proofs.Tests.{cases}
 use Rattle.terms.specs.Table.{no_requestor}
 use Rattle.terms.specs.State.{State, sound, Shaped, place_verdict}

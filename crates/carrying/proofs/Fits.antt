@@ -1,11 +1,6 @@
 -- What the lengths of an old state's words and of words that it fits into say; and its lists are as long as its room. Assumes nothing.
-use mathlib.Core.Path.{◌≡◌, ap, sym, ◌∙◌}
-use mathlib.Core.Bool.{true}
-use mathlib.Core.List.{List}
-use Prim.Native.Nat.{ℕ, ◌≤◌, ◌<◌}
-use native.Mathlib.Omega.{arith}
-use borrow.Author.Tests.{leb-true, le-leb}
-use lib.ListN.{length, get_or, length-map, get_or-map}
+use Rattle.std.proofs.Common.{◌≡◌, ap, sym, ◌∙◌, true, List, ℕ, ◌≤◌, ◌<◌, arith, leb-true, le-leb, length, get_or}
+use lib.ListN.{length-map, get_or-map}
 use Rattle.lists.specs.Places.{places_from}
 use Rattle.lists.proofs.Tests.{and_true, true_and}
 use Rattle.terms.specs.Table.{no_requestor}

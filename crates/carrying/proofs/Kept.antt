@@ -1,9 +1,5 @@
 -- What an old unit had of a state is that state, and has as many places. Assumes nothing.
-use mathlib.Core.Path.{◌≡◌, refl, ap, sym, ◌∙◌}
-use mathlib.Core.List.{List, [], ◌∷◌, map}
-use Prim.Native.Nat.{ℕ}
-use native.Mathlib.Omega.{arith}
-use lib.ListN.{length}
+use Rattle.std.proofs.Common.{◌≡◌, refl, ap, sym, ◌∙◌, List, [], ◌∷◌, map, ℕ, arith, length}
 use Rattle.lists.specs.Pairs.{paired}
 use Rattle.lists.proofs.Pairs.{length_paired}
 use Rattle.terms.specs.declared.place.Requestor.{Requestor}

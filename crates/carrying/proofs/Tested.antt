@@ -1,11 +1,5 @@
 -- Test 23 on the words that an old state was laid into is that of the old state, with its own limit. Assumes nothing.
-use mathlib.Core.Path.{◌≡◌, ap, sym, ◌∙◌}
-use mathlib.Core.Bool.{Bool, true, false, ◌&&◌}
-use mathlib.Core.List.{List}
-use Prim.Native.Nat.{ℕ, ◌+◌, ◌-◌}
-use native.Mathlib.Omega.{arith}
-use lib.Dec.{leb}
-use lib.ListN.{length}
+use Rattle.std.proofs.Common.{◌≡◌, ap, sym, ◌∙◌, Bool, true, false, ◌&&◌, List, ℕ, ◌+◌, ◌-◌, arith, leb, length}
 use Rattle.lists.specs.Runs.{Result}
 use Rattle.terms.specs.State.{State, sound}
 use Rattle.terms.specs.Refusals.{faultless, refusal, gate, resolve}

@@ -1,5 +1,5 @@
 -- Every row passes: the definitions compute to what is written. Assumes nothing.
-use mathlib.Core.Path.{refl}
+use Rattle.std.proofs.Common.{refl}
 use mathlib.Core.Option.{bind}
 use Rattle.lists.specs.Orders.{without}
 use Rattle.lists.specs.Sums.{total, joined, every, up_to}

@@ -1,8 +1,5 @@
 -- The display's run meets what a chain's promise asks: each post's place in the calls is named, and the definitions compute. Assumes nothing.
-use mathlib.Core.Path.{◌≡◌, refl}
-use mathlib.Core.List.{[], ◌∷◌}
-use native.Mathlib.Omega.{arith}
-use lib.ListN.{replicate}
+use Rattle.std.proofs.Common.{◌≡◌, refl, [], ◌∷◌, arith, replicate}
 use Rattle.lists.specs.Sums.{total, every, up_to}
 use Rattle.lists.specs.Overwriting.{written_over}
 use Rattle.lists.specs.Runs

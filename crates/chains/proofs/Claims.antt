@@ -1,12 +1,7 @@
 -- Proves Claims. Assumes nothing.
-use mathlib.Core.Path.{◌≡◌, refl, ap, sym, ◌∙◌}
-use mathlib.Core.List.{List, [], ◌∷◌, ◌++◌}
-use mathlib.Core.Logic.{◌⊎◌, inl, inr}
+use Rattle.std.proofs.Common.{◌≡◌, refl, ap, sym, ◌∙◌, List, [], ◌∷◌, ◌++◌, ◌⊎◌, inl, inr, ℕ, zero, suc, ◌+◌, ◌<◌, zero-add, arith, length, get_or, length-take}
 use mathlib.Core.Option.{Option, none, some}
-use Prim.Native.Nat.{ℕ, zero, suc, ◌+◌, ◌<◌}
-use native.Mathlib.Nat.{zero-add, sub-zero}
-use native.Mathlib.Omega.{arith}
-use lib.ListN.{length, get_or, length-take}
+use native.Mathlib.Nat.{sub-zero}
 use Rattle.lists.specs.Sums.{every}
 use Rattle.lists.proofs.Tests.{cases}
 use Rattle.terms.specs.declared.refusals.Named.TheVariants as named

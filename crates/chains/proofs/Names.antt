@@ -1,14 +1,6 @@
 -- What a name is, and checks 11 and 16 at one place. Assumes nothing.
-use mathlib.Core.Path.{◌≡◌, refl, ap}
-use mathlib.Core.Bool.{true, false, not}
-use mathlib.Core.List.{List, [], ◌∷◌}
+use Rattle.std.proofs.Common.{◌≡◌, refl, ap, true, false, not, List, [], ◌∷◌, ℕ, zero, suc, ◌<◌, not-suc-le-zero, arith, eq-eqb, ne_eqb, eqb, length, get_or}
 use mathlib.Core.Option.{none, some}
-use Prim.Native.Nat.{ℕ, zero, suc, ◌<◌}
-use native.Mathlib.Nat.{not-suc-le-zero}
-use native.Mathlib.Omega.{arith}
-use borrow.Author.Tests.{eq-eqb, ne_eqb}
-use lib.Dec.{eqb}
-use lib.ListN.{length, get_or}
 use Rattle.lists.specs.Sums.{every}
 use Rattle.terms.specs.declared.place.Requestor.{Requestor}
 use Rattle.terms.specs.declared.refusals.Refusal.{Refusal}

@@ -1,12 +1,6 @@
 -- What was written reads back, and what was read was written so. Assumes nothing.
-use mathlib.Core.Path.{◌≡◌, refl, ap, sym}
-use mathlib.Core.Bool.{true, false}
-use mathlib.Core.List.{List, [], ◌∷◌, ◌++◌}
-use Prim.Native.Nat.{ℕ, zero, suc, ◌+◌, ◌-◌, ◌*◌, ◌/◌, ◌%◌, ◌≤◌, ◌<◌}
-use native.Mathlib.Omega.{arith}
-use borrow.Author.Tests.{lt-ltb, le-ltb, le-leb, ltb-true, ltb-false, leb-true, eqb-false, ne_eqb}
-use lib.Dec.{ltb, leb, eqb}
-use lib.ListN.{length, drop}
+use Rattle.std.proofs.Common.{◌≡◌, refl, ap, sym, true, false, List, [], ◌∷◌, ◌++◌, ℕ, zero, suc, ◌+◌, ◌-◌, ◌*◌, ◌/◌, ◌%◌, ◌≤◌, ◌<◌, arith, lt-ltb, le-ltb, le-leb, ltb-true, ltb-false, leb-true, ne_eqb, ltb, leb, eqb, length, drop}
+use borrow.Author.Tests.{eqb-false}
 use Rattle.lists.specs.Overwriting.{written_over}
 use Rattle.lists.proofs.Tests.{cases}
 use Rattle.groups.specs.declared.reading.Reading.{Reading}

@@ -1,13 +1,6 @@
 -- Reading group by group: what the next byte decides, and how many bytes a reading takes. Assumes nothing.
-use mathlib.Core.Path.{◌≡◌, refl, ap}
-use mathlib.Core.Bool.{Bool, true, false}
-use mathlib.Core.List.{List, [], ◌∷◌}
-use Prim.Native.Nat.{ℕ, zero, suc, ◌+◌, ◌-◌, ◌*◌, ◌≤◌, ◌<◌}
-use native.Mathlib.Omega.{arith}
-use borrow.Author.Tests.{lt-ltb, le-ltb}
+use Rattle.std.proofs.Common.{◌≡◌, refl, ap, Bool, true, false, List, [], ◌∷◌, ℕ, zero, suc, ◌+◌, ◌-◌, ◌*◌, ◌≤◌, ◌<◌, arith, lt-ltb, le-ltb, ltb, leb, eqb, length, get_or, take, drop}
 use borrow.Author.Rules.{part_to_end}
-use lib.Dec.{ltb, leb, eqb}
-use lib.ListN.{length, get_or, take, drop}
 use Rattle.lists.specs.Choices.{pick}
 use Rattle.groups.specs.declared.reading.Reading.{Reading}
 use Rattle.groups.specs.declared.reading.Reading.TheVariants.{Number, Ended, Malformed}

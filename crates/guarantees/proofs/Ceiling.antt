@@ -1,9 +1,5 @@
 -- The ceiling, from any sound state. Assumes nothing.
-use mathlib.Core.Path.{◌≡◌, ◌∙◌}
-use mathlib.Core.List.{List}
-use Prim.Native.Nat.{ℕ, ◌+◌, ◌*◌, ◌≤◌}
-use native.Mathlib.Omega.{arith}
-use lib.ListN.{take}
+use Rattle.std.proofs.Common.{◌≡◌, ◌∙◌, List, ℕ, ◌+◌, ◌*◌, ◌≤◌, arith, take}
 use Rattle.lists.specs.Sums.{total}
 use Rattle.lists.specs.Runs.{answers}
 use Rattle.lists.proofs.Runs.{each, along}

@@ -1,15 +1,8 @@
 -- Proves Chains, link by link: a link that is posted has one transfer waiting, which is granted within its finish figure for one; from there
 -- on the same is said of the other links. Assumes nothing.
-use mathlib.Core.Path.{◌≡◌, refl, ap, sym, ◌∙◌}
-use mathlib.Core.Bool.{true, false}
-use mathlib.Core.List.{List, [], ◌∷◌}
+use Rattle.std.proofs.Common.{◌≡◌, refl, ap, sym, ◌∙◌, true, false, List, [], ◌∷◌, ℕ, zero, suc, ◌+◌, ◌-◌, ◌*◌, ◌≤◌, ◌<◌, mul-le-mul, mul-le-mul_right, zero-add, arith, lt-ltb, le-leb, eq-eqb, length, length-append}
 use mathlib.Core.Option.{Option, none, some}
-use Prim.Native.Nat.{ℕ, zero, suc, ◌+◌, ◌-◌, ◌*◌, ◌≤◌, ◌<◌}
-use native.Mathlib.Nat.{mul-le-mul, mul-le-mul_right, zero-add}
 use native.Mathlib.Decide.{dec_le}
-use native.Mathlib.Omega.{arith}
-use borrow.Author.Tests.{lt-ltb, le-leb, eq-eqb}
-use lib.ListN.{length, length-append}
 use Rattle.lists.specs.Sums.{total}
 use Rattle.lists.specs.Runs.{end, answers}
 use Rattle.lists.proofs.Tests.{cases, true_false}

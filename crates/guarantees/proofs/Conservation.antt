@@ -1,8 +1,5 @@
 -- Proves Conservation: what posts brought to a place is what it was granted and what still waits there. Assumes nothing.
-use mathlib.Core.Path.{◌≡◌, refl}
-use mathlib.Core.List.{List, [], ◌∷◌}
-use Prim.Native.Nat.{ℕ, ◌+◌}
-use native.Mathlib.Omega.{arith}
+use Rattle.std.proofs.Common.{◌≡◌, refl, List, [], ◌∷◌, ℕ, ◌+◌, arith}
 use Rattle.lists.specs.Sums.{total}
 use Rattle.lists.specs.Runs.{end, answers}
 use Rattle.terms.specs.declared.refusals.Refusal.{Refusal}

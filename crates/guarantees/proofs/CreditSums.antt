@@ -1,8 +1,6 @@
 -- Proves CreditSums: after any calls from an accepted start the credit sums hold and nothing is turned down by 23; and n ≤ R.
 -- Assumes nothing.
-use mathlib.Core.Path.{◌≡◌, ap, sym, ◌∙◌}
-use Prim.Native.Nat.{ℕ, suc}
-use native.Mathlib.Omega.{arith}
+use Rattle.std.proofs.Common.{◌≡◌, ap, sym, ◌∙◌, ℕ, suc, arith}
 use Rattle.terms.specs.Table.{Table}
 use Rattle.terms.specs.State.{State}
 use Rattle.terms.proofs.Above.{above}

@@ -1,11 +1,6 @@
 -- Proves FinishFigure: two quotients rounded up one by one cover their sum, and pass it by less than two. Assumes nothing.
-use mathlib.Core.Path.{◌≡◌, ap, ◌∙◌}
-use Prim.Native.Nat.{ℕ, ◌+◌, ◌*◌, ◌≤◌, ◌<◌}
-use native.Mathlib.Nat.{mul-le-mul, mul-le-mul_left, zero-add}
+use Rattle.std.proofs.Common.{◌≡◌, ap, ◌∙◌, ℕ, ◌+◌, ◌*◌, ◌≤◌, ◌<◌, mul-le-mul, mul-le-mul_left, zero-add, arith, leb-true, le-leb, length, length-take}
 use native.Mathlib.Decide.{dec_le}
-use native.Mathlib.Omega.{arith}
-use borrow.Author.Tests.{leb-true, le-leb}
-use lib.ListN.{length, length-take}
 use Rattle.terms.specs.Table.{Table, requestors_of, requestor_at, needs_fit_verdict, table_verdict}
 use Rattle.terms.specs.Figures.{rounded_up, bursts_above, rate_left, wait_of, finish_of, finish}
 use Rattle.terms.specs.Refusals.{faultless, then}

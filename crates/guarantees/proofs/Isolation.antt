@@ -1,15 +1,9 @@
 -- What the first m places are shown depends only on the table, the slot number, their own accounts and the calls that concern
 -- them: these calls alone, on the state cut to these accounts, show the same; and their order between places does not count (Orders).
 -- For every m, past N too. Assumes nothing.
-use mathlib.Core.Path.{◌≡◌, refl, sym, ap, ap₂, ◌∙◌}
-use mathlib.Core.Bool.{true, false}
-use mathlib.Core.List.{List, [], ◌∷◌}
-use Prim.Native.Nat.{ℕ, zero, suc, ◌≤◌, ◌<◌}
-use native.Mathlib.Omega.{arith}
-use borrow.Author.Tests.{ltb-true, ltb-false, lt-ltb}
-use lib.Dec.{ltb, leb-suc-suc, leb-suc-zero}
-use lib.ListN.{take}
-use lib.Seq.{get_or-set_other, take-take, get_or-take, take-set-le, take-set-lt}
+use Rattle.std.proofs.Common.{◌≡◌, refl, sym, ap, ap₂, ◌∙◌, true, false, List, [], ◌∷◌, ℕ, zero, suc, ◌≤◌, ◌<◌, arith, ltb-true, ltb-false, lt-ltb, ltb, take, get_or-set_other, take-take, get_or-take}
+use lib.Dec.{leb-suc-suc, leb-suc-zero}
+use lib.Seq.{take-set-le, take-set-lt}
 use Rattle.lists.specs.Choices.{pick}
 use Rattle.lists.proofs.Tests.{cases, true_false}
 use Rattle.lists.specs.Runs.{Result}

@@ -1,11 +1,5 @@
 -- Proves NeedFits: nothing but a row's own limits looks at its need, the rule least of all. Assumes nothing.
-use mathlib.Core.Path.{◌≡◌, refl, ap, sym, ◌∙◌}
-use mathlib.Core.Bool.{true}
-use mathlib.Core.List.{List, [], ◌∷◌}
-use Prim.Native.Nat.{ℕ, zero, suc, ◌≤◌, ◌<◌}
-use native.Mathlib.Omega.{arith}
-use lib.ListN.{length, take, set, length-set}
-use lib.Seq.{drop-set-lt}
+use Rattle.std.proofs.Common.{◌≡◌, refl, ap, sym, ◌∙◌, true, List, [], ◌∷◌, ℕ, zero, suc, ◌≤◌, ◌<◌, arith, length, take, set, length-set, drop-set-lt}
 use Rattle.lists.specs.Sums.{total}
 use Rattle.lists.specs.Runs.{Result, end, answers}
 use Rattle.lists.proofs.Sums.{total_take_set, at_set}

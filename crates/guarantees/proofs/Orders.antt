@@ -1,14 +1,7 @@
 -- Posts to different places may come in any order: what the places are shown after each slot is the same. For the first m places, and
 -- calls that concern these. Assumes nothing.
-use mathlib.Core.Path.{◌≡◌, refl, sym, ap, ◌∙◌}
-use mathlib.Core.Bool.{Bool, true, false}
-use mathlib.Core.List.{List, [], ◌∷◌}
-use Prim.Native.Nat.{ℕ, zero, suc, ◌<◌}
-use native.Mathlib.Omega.{arith}
-use borrow.Author.Tests.{ltb-true, ltb-false, eqb-true, eqb-false, eq-eqb, ne_eqb}
-use lib.Dec.{ltb, eqb}
-use lib.ListN.{set}
-use lib.Seq.{get_or-set_other}
+use Rattle.std.proofs.Common.{◌≡◌, refl, sym, ap, ◌∙◌, Bool, true, false, List, [], ◌∷◌, ℕ, zero, suc, ◌<◌, arith, ltb-true, ltb-false, eqb-true, eq-eqb, ne_eqb, ltb, eqb, set, get_or-set_other}
+use borrow.Author.Tests.{eqb-false}
 use Rattle.lists.proofs.Tests.{cases, true_false}
 use Rattle.terms.specs.declared.place.Account.{Account}
 use Rattle.terms.specs.State.{State, no_account, account_at}

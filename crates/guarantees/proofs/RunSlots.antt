@@ -1,11 +1,5 @@
 -- An accepted run is so many slots of the rule, and they are calls of slot. Assumes nothing.
-use mathlib.Core.Path.{◌≡◌, refl, ap, ap₂, sym, ◌∙◌}
-use mathlib.Core.Bool.{true}
-use mathlib.Core.List.{List, ◌∷◌, ◌++◌, map}
-use Prim.Native.Nat.{ℕ, zero, suc, ◌+◌, ◌≤◌, ◌<◌}
-use native.Mathlib.Omega.{arith}
-use borrow.Author.Tests.{lt-ltb, leb-true, le-leb}
-use lib.ListN.{length, length-append}
+use Rattle.std.proofs.Common.{◌≡◌, refl, ap, ap₂, sym, ◌∙◌, true, List, ◌∷◌, ◌++◌, map, ℕ, zero, suc, ◌+◌, ◌≤◌, ◌<◌, arith, lt-ltb, leb-true, le-leb, length, length-append}
 use Rattle.lists.specs.Runs.{end, answers}
 use Rattle.lists.specs.Sums.{total}
 use Rattle.terms.specs.State.{State, sound, Shaped}

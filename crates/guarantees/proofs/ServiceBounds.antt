@@ -1,11 +1,6 @@
 -- Proves ServiceBounds: from an accepted start calls are the rule's, and the ceiling and the floor hold of every stretch. The floor is
 -- also proved from any sound state, where it follows from the sharper one. Assumes nothing.
-use mathlib.Core.Path.{◌≡◌, ap, ◌∙◌}
-use mathlib.Core.List.{List}
-use mathlib.Core.Logic.{inl, inr}
-use Prim.Native.Nat.{ℕ, ◌+◌, ◌*◌, ◌≤◌, ◌<◌}
-use native.Mathlib.Nat.{mul-le-mul_left, mul-le-mul_right}
-use native.Mathlib.Omega.{arith}
+use Rattle.std.proofs.Common.{◌≡◌, ap, ◌∙◌, List, inl, inr, ℕ, ◌+◌, ◌*◌, ◌≤◌, ◌<◌, mul-le-mul_left, mul-le-mul_right, arith}
 use Rattle.lists.specs.Runs.{end, answers}
 use Rattle.terms.specs.Table.{Table, requestors_of}
 use Rattle.terms.specs.State.{State, credit, account_at}

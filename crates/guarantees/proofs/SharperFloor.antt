@@ -1,11 +1,5 @@
 -- Proves SharperFloor, by one invariant along the stretch. Assumes nothing.
-use mathlib.Core.Path.{◌≡◌, refl, ◌∙◌}
-use mathlib.Core.List.{List}
-use mathlib.Core.Logic.{inl, inr}
-use Prim.Native.Nat.{ℕ, ◌+◌, ◌*◌, ◌≤◌, ◌<◌}
-use native.Mathlib.Nat.{zero-add, add-zero, mul-le-mul_left, mul-le-mul_right}
-use native.Mathlib.Omega.{arith}
-use lib.ListN.{length, take}
+use Rattle.std.proofs.Common.{◌≡◌, refl, ◌∙◌, List, inl, inr, ℕ, ◌+◌, ◌*◌, ◌≤◌, ◌<◌, zero-add, add-zero, mul-le-mul_left, mul-le-mul_right, arith, length, take}
 use Rattle.lists.specs.Sums.{total}
 use Rattle.lists.specs.Runs.{answers}
 use Rattle.lists.proofs.Runs.{along}

@@ -1,12 +1,5 @@
 -- A sound state stays sound under the rule; so no call from it meets 23, and its calls are the rule's. Assumes nothing.
-use mathlib.Core.Path.{◌≡◌, ◌∙◌}
-use mathlib.Core.List.{List}
-use Prim.Native.Nat.{ℕ, ◌<◌}
-use native.Mathlib.Omega.{arith}
-use borrow.Author.Tests.{eqb-true}
-use lib.Dec.{eqb}
-use lib.ListN.{length, length-set}
-use lib.Seq.{drop-set-lt}
+use Rattle.std.proofs.Common.{◌≡◌, ◌∙◌, List, ℕ, ◌<◌, arith, eqb-true, eqb, length, length-set, drop-set-lt}
 use Rattle.lists.proofs.Tests.{cases}
 use Rattle.lists.specs.Runs.{end, answers}
 use Rattle.lists.proofs.Runs.{keeps, same_end, same_answers}

@@ -1,12 +1,6 @@
 -- The accepted slots of a list of calls are stamped with the state's slot number and the numbers after it, so no two alike.
 -- Assumes nothing.
-use mathlib.Core.Path.{◌≡◌, refl, ap}
-use mathlib.Core.List.{List, [], ◌∷◌}
-use Prim.Native.Nat.{ℕ, zero, suc, ◌+◌, ◌<◌}
-use native.Mathlib.Nat.{not-suc-le-zero, zero-add, add-zero}
-use native.Mathlib.Numerals.{one-add}
-use native.Mathlib.Omega.{arith}
-use lib.ListN.{length, get_or}
+use Rattle.std.proofs.Common.{◌≡◌, refl, ap, List, [], ◌∷◌, ℕ, zero, suc, ◌+◌, ◌<◌, not-suc-le-zero, zero-add, add-zero, one-add, arith, length, get_or}
 use Rattle.lists.specs.Sums.{total}
 use Rattle.lists.specs.Runs
 use Rattle.terms.specs.State.{State}

@@ -1,8 +1,5 @@
 -- The state of an accepted start is sound, so all calls from it are the rule's, on the start's table. Assumes nothing.
-use mathlib.Core.Path.{◌≡◌, refl, ap, ◌∙◌}
-use mathlib.Core.List.{List}
-use Prim.Native.Nat.{ℕ}
-use native.Mathlib.Omega.{arith}
+use Rattle.std.proofs.Common.{◌≡◌, refl, ap, ◌∙◌, List, ℕ, arith}
 use Rattle.lists.specs.Runs.{Result, end, answers}
 use Rattle.lists.proofs.Runs.{keeps}
 use Rattle.terms.specs.declared.refusals.Refusal.{Refusal}

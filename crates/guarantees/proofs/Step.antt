@@ -1,12 +1,7 @@
 -- One call of the rule by its three kinds, refused, posted and slot: the eliminator of every fact about a run, and what each kind
 -- says. Assumes nothing.
-use mathlib.Core.Path.{◌≡◌, refl, sym}
-use Prim.Native.Nat.{ℕ, ◌+◌, ◌≤◌, ◌<◌}
-use native.Mathlib.Omega.{arith}
-use borrow.Author.Tests.{ltb-true, leb-true, eqb-true, eqb-false}
-use lib.Dec.{eqb}
-use lib.ListN.{length, take}
-use lib.Seq.{get_or-set_same, get_or-set_other}
+use Rattle.std.proofs.Common.{◌≡◌, refl, sym, ℕ, ◌+◌, ◌≤◌, ◌<◌, arith, ltb-true, leb-true, eqb-true, eqb, length, take, get_or-set_same, get_or-set_other}
+use borrow.Author.Tests.{eqb-false}
 use Rattle.lists.specs.Choices.{pick}
 use Rattle.lists.proofs.Tests.{cases}
 use Rattle.lists.specs.Sums.{total}

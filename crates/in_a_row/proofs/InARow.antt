@@ -1,13 +1,7 @@
 -- The steps' texts in a row are the listing: each step but the last takes a byte of the input at least, so that no more steps than bytes
 -- follow the first. Assumes nothing.
-use mathlib.Core.Path.{◌≡◌, refl, ap, sym, ◌∙◌}
-use mathlib.Core.Bool.{Bool, true, false}
-use mathlib.Core.List.{List, [], ◌++◌}
-use Prim.Native.Nat.{ℕ, zero, suc, ◌+◌, ◌≤◌}
-use native.Mathlib.Omega.{arith}
+use Rattle.std.proofs.Common.{◌≡◌, refl, ap, sym, ◌∙◌, Bool, true, false, List, [], ◌++◌, ℕ, zero, suc, ◌+◌, ◌≤◌, arith, leb, eqb, length, take, drop, length-drop}
 use borrow.Author.Tests.{lt-leb}
-use lib.Dec.{leb, eqb}
-use lib.ListN.{length, take, drop, length-drop}
 use Rattle.lists.specs.Choices.{pick}
 use Rattle.lists.specs.Runs.{Result}
 use Rattle.groups.specs.declared.reading.Reading as number

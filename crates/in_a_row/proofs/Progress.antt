@@ -1,12 +1,5 @@
 -- What the loop of a caller needs to end: a step that goes on has taken a byte, and one without room had none. Assumes nothing.
-use mathlib.Core.Path.{◌≡◌, refl, ap, sym, ◌∙◌}
-use mathlib.Core.Bool.{Bool, true, false}
-use mathlib.Core.List.{List}
-use Prim.Native.Nat.{ℕ, suc, ◌≤◌, ◌<◌}
-use native.Mathlib.Omega.{arith}
-use borrow.Author.Tests.{leb-false}
-use lib.Dec.{leb}
-use lib.ListN.{length, drop, length-drop}
+use Rattle.std.proofs.Common.{◌≡◌, refl, ap, sym, ◌∙◌, Bool, true, false, List, ℕ, suc, ◌≤◌, ◌<◌, arith, leb-false, leb, length, drop, length-drop}
 use Rattle.lists.specs.Choices.{pick}
 use Rattle.terms.specs.State.{State}
 use Rattle.terms.specs.Limits.{max_places}

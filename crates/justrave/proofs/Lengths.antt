@@ -1,12 +1,5 @@
 -- The test of lengths ahead of a call, and answers of one and two words. Assumes nothing.
-use mathlib.Core.Path.{◌≡◌, refl, sym, ◌∙◌}
-use mathlib.Core.Bool.{Bool, true, false, ◌&&◌}
-use mathlib.Core.List.{List, [], ◌∷◌}
-use Prim.Native.Nat.{ℕ, ◌≤◌}
-use native.Mathlib.Omega.{arith}
-use borrow.Author.Tests.{eqb-true}
-use lib.Dec.{eqb}
-use lib.ListN.{length, set}
+use Rattle.std.proofs.Common.{◌≡◌, refl, sym, ◌∙◌, Bool, true, false, ◌&&◌, List, [], ◌∷◌, ℕ, ◌≤◌, arith, eqb-true, eqb, length, set}
 use Rattle.lists.proofs.Tests.{and_true}
 use Rattle.terms.specs.State.{State}
 use Rattle.layout.specs.Words.{room_of_words, right_length, state_of}

@@ -1,13 +1,5 @@
 -- A query about lent words: turned down by a length, or answered of the state that the words are. Assumes nothing.
-use mathlib.Core.Path.{◌≡◌, refl, ap, sym, ◌∙◌}
-use mathlib.Core.Bool.{Bool, true, false, ◌&&◌}
-use mathlib.Core.List.{List, [], ◌∷◌}
-use Prim.Native.Nat.{ℕ}
-use native.Mathlib.Omega.{arith}
-use borrow.Author.Tests.{eqb-true, eq-eqb, ne_eqb}
-use lib.Dec.{eqb}
-use lib.IntN.{ℤ}
-use lib.ListN.{length, set}
+use Rattle.std.proofs.Common.{◌≡◌, refl, ap, sym, ◌∙◌, Bool, true, false, ◌&&◌, List, [], ◌∷◌, ℕ, arith, eqb-true, eq-eqb, ne_eqb, eqb, ℤ, length, set}
 use Rattle.lists.specs.Choices.{pick}
 use Rattle.lists.proofs.Tests.{true_and, and_false}
 use Rattle.terms.specs.declared.refusals.Refusal.{Refusal}

@@ -1,9 +1,6 @@
 -- A table laid into words: what the table is after D and N, and after the first p of the rows. Assumes nothing.
-use mathlib.Core.Path.{◌≡◌, refl, ap, sym, ◌∙◌}
-use mathlib.Core.List.{List, [], ◌++◌}
-use Prim.Native.Nat.{ℕ, ◌+◌, ◌≤◌, ◌<◌}
-use native.Mathlib.Omega.{arith}
-use lib.ListN.{length, get_or, set, take, drop, replicate, length-replicate}
+use Rattle.std.proofs.Common.{◌≡◌, refl, ap, sym, ◌∙◌, List, [], ◌++◌, ℕ, ◌+◌, ◌≤◌, ◌<◌, arith, length, get_or, set, take, drop, replicate}
+use lib.ListN.{length-replicate}
 use Rattle.lists.specs.Places.{places_from}
 use Rattle.lists.proofs.Overwriting.{overwrite_more, overwrite_all}
 use Rattle.terms.specs.declared.place.Requestor.{Requestor}

@@ -1,17 +1,8 @@
 -- What a store of one field makes of the state that the words are; the state of words that are all 0; and words that are 0 from a place on.
 -- Assumes nothing.
-use mathlib.Core.Path.{◌≡◌, refl, sym, ◌∙◌}
-use mathlib.Core.Bool.{Bool, true, false, ◌&&◌}
-use mathlib.Core.List.{List}
-use mathlib.Core.Logic.{◌≢◌}
-use Prim.Native.Nat.{ℕ, zero, suc, ◌+◌, ◌-◌, ◌≤◌, ◌<◌}
-use native.Mathlib.Numerals.{add-one}
-use native.Mathlib.Omega.{arith}
-use borrow.Author.Tests.{eqb-true, eqb-false, ne_eqb}
+use Rattle.std.proofs.Common.{◌≡◌, refl, sym, ◌∙◌, Bool, true, false, ◌&&◌, List, ◌≢◌, ℕ, zero, suc, ◌+◌, ◌-◌, ◌≤◌, ◌<◌, add-one, arith, eqb-true, ne_eqb, eqb, length, get_or, set, drop, replicate, drop_of_length-le, length-set, drop-cons, get_or-set_same, get_or-set_other}
+use borrow.Author.Tests.{eqb-false}
 use lib.Bits.{bit_or, or_add_and, and_le_r}
-use lib.Dec.{eqb}
-use lib.ListN.{length, get_or, set, drop, replicate, drop_of_length-le, length-set}
-use lib.Seq.{drop-cons, get_or-set_same, get_or-set_other}
 use Rattle.lists.specs.Sums.{every}
 use Rattle.lists.specs.Overwriting.{written_over}
 use Rattle.lists.specs.Places.{places_from}

@@ -1,11 +1,6 @@
 -- The rows of a table given as numbers as items, and the round trip of a table and its numbers. Assumes nothing.
-use mathlib.Core.Path.{◌≡◌, refl, ap, sym, ◌∙◌}
-use mathlib.Core.List.{[], ◌∷◌, ◌++◌, append-nil}
-use Prim.Native.Nat.{suc, ◌+◌, ◌*◌}
-use native.Mathlib.Omega.{arith}
-use borrow.Author.Tests.{eqb-true, eq-eqb}
-use lib.ListN.{length, get_or, drop, drop_of_length-le}
-use lib.Seq.{drop-cons, get_or-append_seam, get_or-append-add}
+use Rattle.std.proofs.Common.{◌≡◌, refl, ap, sym, ◌∙◌, [], ◌∷◌, ◌++◌, append-nil, suc, ◌+◌, ◌*◌, arith, eqb-true, eq-eqb, length, get_or, drop, drop_of_length-le, drop-cons, get_or-append-add}
+use lib.Seq.{get_or-append_seam}
 use Rattle.lists.specs.Sums.{joined}
 use Rattle.lists.proofs.Sums.{length_joined_same}
 use Rattle.terms.specs.declared.place.Requestor.{Requestor}

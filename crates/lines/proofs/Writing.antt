@@ -1,10 +1,5 @@
 -- Texts put one behind the other at the start of a buffer, and the lines that are made of them. Assumes nothing.
-use mathlib.Core.Path.{◌≡◌, refl, ap, sym, ◌∙◌}
-use mathlib.Core.List.{List, [], ◌∷◌, ◌++◌, map, append-nil, append_assoc}
-use Prim.Native.Nat.{ℕ, suc, ◌+◌, ◌≤◌, ◌<◌}
-use native.Mathlib.Omega.{arith}
-use lib.ListN.{length, get_or, set, take, drop, length-append, length-set}
-use lib.Seq.{take_all}
+use Rattle.std.proofs.Common.{◌≡◌, refl, ap, sym, ◌∙◌, List, [], ◌∷◌, ◌++◌, map, append-nil, append_assoc, ℕ, suc, ◌+◌, ◌≤◌, ◌<◌, arith, length, get_or, set, take, drop, length-append, length-set, take_all}
 use Rattle.lists.specs.Sums.{joined}
 use Rattle.lists.specs.Overwriting.{written_over}
 use Rattle.lists.proofs.Sums.{total_take_rises, joined_next, length_joined}

@@ -1,13 +1,7 @@
 -- A step's text in the lent buffer: it fits where the longest line does, it stands at the buffer's start, and it is the step's. Assumes
 -- nothing.
-use mathlib.Core.Path.{◌≡◌, refl, ap, sym, ◌∙◌}
-use mathlib.Core.Bool.{true, false}
-use mathlib.Core.List.{List, [], ◌∷◌, ◌++◌}
-use Prim.Native.Nat.{ℕ, suc, ◌+◌, ◌*◌, ◌≤◌, ◌<◌}
-use native.Mathlib.Omega.{arith}
-use borrow.Author.Tests.{le-leb, lt-leb, eq-eqb, ne_eqb}
-use lib.ListN.{length, take, drop, length-take}
-use lib.Seq.{take_at}
+use Rattle.std.proofs.Common.{◌≡◌, refl, ap, sym, ◌∙◌, true, false, List, [], ◌∷◌, ◌++◌, ℕ, suc, ◌+◌, ◌*◌, ◌≤◌, ◌<◌, arith, le-leb, eq-eqb, ne_eqb, length, take, drop, length-take, take_at}
+use borrow.Author.Tests.{lt-leb}
 use Rattle.lists.specs.Sums.{joined}
 use Rattle.lists.specs.Overwriting.{written_over}
 use Rattle.lists.specs.Runs.{Result}

@@ -1,15 +1,9 @@
 -- A list ys of which the first i elements have been overwritten by those of xs, and an old list that has others written over
 -- its front. Assumes nothing.
-use mathlib.Core.Path.{◌≡◌, refl, ap, sym, ◌∙◌}
-use mathlib.Core.List.{List, [], ◌∷◌, ◌++◌, append-nil, append_assoc}
-use Prim.Native.Nat.{ℕ, zero, suc, ◌+◌, ◌-◌, ◌≤◌, ◌<◌}
-use native.Mathlib.Nat.{not-suc-le-zero}
-use native.Mathlib.Numerals.{add-one}
-use native.Mathlib.Omega.{arith}
+use Rattle.std.proofs.Common.{◌≡◌, refl, ap, sym, ◌∙◌, List, [], ◌∷◌, ◌++◌, append-nil, append_assoc, ℕ, zero, suc, ◌+◌, ◌-◌, ◌≤◌, ◌<◌, not-suc-le-zero, add-one, arith, length, get_or, take, drop, set, drop_of_length-le, length-append, length-drop, take_all, take_at, drop-drop}
 use borrow.Author.Rules.{part_to_end}
 use borrow.Rule.Slice.PartMut.{put_mid}
-use lib.ListN.{length, get_or, take, drop, set, drop_of_length-le, length-append, length-drop}
-use lib.Seq.{take_all, take_at, drop-append-add, drop-append_seam, drop-drop, drop-length, sets, sets-eq}
+use lib.Seq.{drop-append-add, drop-append_seam, drop-length, sets, sets-eq}
 use Rattle.lists.specs.Overwriting.{written_over}
 
 module _ {A : Type 0} (z : A) where

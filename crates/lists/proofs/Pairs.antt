@@ -1,9 +1,5 @@
 -- Laws on two lists side by side. Assumes nothing.
-use mathlib.Core.Path.{◌≡◌, refl, ap}
-use mathlib.Core.List.{List, [], ◌∷◌, map}
-use Prim.Native.Nat.{ℕ, zero, suc, ◌<◌}
-use native.Mathlib.Omega.{arith}
-use lib.ListN.{length, get_or, set}
+use Rattle.std.proofs.Common.{◌≡◌, refl, ap, List, [], ◌∷◌, map, ℕ, zero, suc, ◌<◌, arith, length, get_or, set}
 use Rattle.lists.specs.Pairs.{paired}
 
 module _ {A B C : Type 0} (f : A → B → C) where

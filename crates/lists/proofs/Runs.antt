@@ -1,12 +1,7 @@
 -- Laws on lists of calls over any state: what every call keeps, one call more at the end, two steps that agree, and counts
 -- along the calls.
 -- Assumes nothing.
-use mathlib.Core.Path.{◌≡◌, refl, ap}
-use mathlib.Core.List.{List, [], ◌∷◌, ◌++◌}
-use Prim.Native.Nat.{ℕ, suc, ◌+◌}
-use native.Mathlib.Omega.{arith}
-use native.Mathlib.Nat.{zero-add}
-use lib.ListN.{length}
+use Rattle.std.proofs.Common.{◌≡◌, refl, ap, List, [], ◌∷◌, ◌++◌, ℕ, suc, ◌+◌, arith, zero-add, length}
 use Rattle.lists.specs.Sums.{total}
 use Rattle.lists.specs.Runs.{Result, end, answers, Each}
 

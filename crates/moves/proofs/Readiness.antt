@@ -1,11 +1,5 @@
 -- What words that passed test 23 leave room for, what a slot makes of them, and that they pass it again. Assumes nothing.
-use mathlib.Core.Path.{◌≡◌, refl, ap, sym, ◌∙◌}
-use mathlib.Core.Bool.{true}
-use mathlib.Core.List.{List}
-use Prim.Native.Nat.{ℕ, ◌+◌, ◌≤◌, ◌<◌, ◌^◌}
-use native.Mathlib.Omega.{arith}
-use lib.ListN.{length, get_or}
-use lib.Seq.{get_or-take}
+use Rattle.std.proofs.Common.{◌≡◌, refl, ap, sym, ◌∙◌, true, List, ℕ, ◌+◌, ◌≤◌, ◌<◌, ◌^◌, arith, length, get_or, get_or-take}
 use Rattle.terms.specs.State.{State, credit, account_at, sound}
 use Rattle.terms.specs.Limits.{max_places, max_slot}
 use Rattle.terms.specs.Table.{rate, no_requestor, requestor_at}

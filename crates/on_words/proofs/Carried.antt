@@ -1,9 +1,5 @@
 -- The carrying over of an old unit's words: 255, 23, what is cleared, and that each call from there comes to the same. Assumes nothing.
-use mathlib.Core.Path.{◌≡◌, refl, ap, sym, ◌∙◌}
-use mathlib.Core.Bool.{true}
-use mathlib.Core.List.{List}
-use Prim.Native.Nat.{ℕ, ◌+◌, ◌-◌, ◌≤◌}
-use native.Mathlib.Omega.{arith}
+use Rattle.std.proofs.Common.{◌≡◌, refl, ap, sym, ◌∙◌, true, List, ℕ, ◌+◌, ◌-◌, ◌≤◌, arith}
 use Rattle.lists.specs.Runs.{Result}
 use Rattle.lists.proofs.Tests.{cases}
 use Rattle.terms.specs.declared.refusals.Refusal.{Refusal}

@@ -1,9 +1,5 @@
 -- Proves Installed: 17 is all that is found of what was taken, and without it the start is accepted. Assumes nothing.
-use mathlib.Core.Path.{◌≡◌, refl, ap, subst, ◌∙◌}
-use mathlib.Core.List.{List, []}
-use Prim.Native.Nat.{ℕ}
-use native.Mathlib.Omega.{arith}
-use lib.ListN.{length}
+use Rattle.std.proofs.Common.{◌≡◌, refl, ap, subst, ◌∙◌, List, [], ℕ, arith, length}
 use Rattle.terms.specs.declared.place.Requestor.{Requestor}
 use Rattle.terms.specs.Table.{Table, table_of, denominator_bounds, count_bounds, fields_verdict, need_fits_verdict, each_place, needs_fit_verdict, rate_sum_verdict, verdict_by}
 use Rattle.terms.specs.Refusals.{Verdict, faultless, fault, then, resolve}

@@ -1,13 +1,8 @@
 -- A start of a table with clear rows behind its own, from its bytes or its numbers, is that of the table, with the same behind its state; but
 -- for 2, where N is above the room. Assumes nothing.
-use mathlib.Core.Path.{◌≡◌, refl, ap, sym, ◌∙◌}
-use mathlib.Core.Bool.{true}
-use mathlib.Core.List.{List, [], ◌∷◌, ◌++◌, map, append_assoc}
-use Prim.Native.Nat.{ℕ, zero, suc, ◌+◌, ◌*◌, ◌≤◌, ◌<◌}
-use native.Mathlib.Omega.{arith}
-use borrow.Author.Tests.{leb-true, leb-false, le-leb, lt-leb, eqb-true, eqb-false, eq-eqb, ne_eqb}
-use lib.Dec.{leb}
-use lib.ListN.{length, drop, replicate, length-append, length-replicate, replicate-append-replicate}
+use Rattle.std.proofs.Common.{◌≡◌, refl, ap, sym, ◌∙◌, true, List, [], ◌∷◌, ◌++◌, map, append_assoc, ℕ, zero, suc, ◌+◌, ◌*◌, ◌≤◌, ◌<◌, arith, leb-true, leb-false, le-leb, eqb-true, eq-eqb, ne_eqb, leb, length, drop, replicate, length-append}
+use borrow.Author.Tests.{lt-leb, eqb-false}
+use lib.ListN.{length-replicate, replicate-append-replicate}
 use lib.Seq.{drop-append-le}
 use Rattle.lists.specs.Choices.{in_range}
 use Rattle.lists.specs.Sums.{joined}

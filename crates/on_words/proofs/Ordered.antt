@@ -1,13 +1,5 @@
 -- The exported call that puts a table in order. Assumes nothing.
-use mathlib.Core.Path.{◌≡◌, refl, ap, sym, ◌∙◌}
-use mathlib.Core.Bool.{true}
-use mathlib.Core.List.{List, []}
-use Prim.Native.Nat.{ℕ, ◌+◌, ◌-◌, ◌≤◌}
-use native.Mathlib.Omega.{arith}
-use borrow.Author.Tests.{le-leb, eq-eqb}
-use lib.Dec.{eqb}
-use lib.ListN.{length, take, get_or}
-use lib.Seq.{length-take-le}
+use Rattle.std.proofs.Common.{◌≡◌, refl, ap, sym, ◌∙◌, true, List, [], ℕ, ◌+◌, ◌-◌, ◌≤◌, arith, le-leb, eq-eqb, eqb, length, take, get_or, length-take-le}
 use Rattle.lists.proofs.Tests.{cases, true_false}
 use Rattle.terms.specs.Limits.{max_slot}
 use Rattle.terms.specs.Table.{Table, requestors_of, table_of, offered_row_verdict}

@@ -1,6 +1,6 @@
 -- Every row passes: the definitions compute to what is written. One list after the other, since the check counts the steps of each
 -- proof and the words grow with the largest N. Assumes nothing.
-use mathlib.Core.Path.{refl}
+use Rattle.std.proofs.Common.{refl}
 use mathlib.Core.Option.{bind}
 use Rattle.lists.specs.Sums.{total, joined, every, up_to}
 use Rattle.lists.specs.Orders.{without}

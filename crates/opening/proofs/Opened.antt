@@ -1,10 +1,7 @@
 -- The accounts of words are opened: what the state is after the first p of them. And a start of words is one of the table that was laid into
 -- them. Assumes nothing.
-use mathlib.Core.Path.{◌≡◌, refl, ap, ap₂, sym, ◌∙◌}
-use mathlib.Core.List.{List, ◌++◌, map}
-use Prim.Native.Nat.{ℕ, ◌+◌, ◌≤◌, ◌<◌}
-use native.Mathlib.Omega.{arith}
-use lib.ListN.{length, get_or, set, take, drop, length-map, get_or-map}
+use Rattle.std.proofs.Common.{◌≡◌, refl, ap, ap₂, sym, ◌∙◌, List, ◌++◌, map, ℕ, ◌+◌, ◌≤◌, ◌<◌, arith, length, get_or, set, take, drop}
+use lib.ListN.{length-map, get_or-map}
 use Rattle.lists.proofs.Overwriting.{overwrite_more, overwrite_all}
 use Rattle.terms.specs.Table.{Table, no_requestor}
 use Rattle.terms.specs.declared.place.Account.{Account}

@@ -1,11 +1,5 @@
 -- From bytes to bytes. Assumes nothing.
-use mathlib.Core.Path.{◌≡◌, refl, ap, sym, ◌∙◌}
-use mathlib.Core.List.{List, [], ◌∷◌, ◌++◌}
-use Prim.Native.Nat.{ℕ, suc, ◌+◌}
-use native.Mathlib.Omega.{arith}
-use borrow.Author.Tests.{le-leb, ne_eqb}
-use lib.Dec.{leb}
-use lib.ListN.{length, take, length-append}
+use Rattle.std.proofs.Common.{◌≡◌, refl, ap, sym, ◌∙◌, List, [], ◌∷◌, ◌++◌, ℕ, suc, ◌+◌, arith, le-leb, ne_eqb, leb, length, take, length-append}
 use Rattle.lists.specs.Sums.{total, joined}
 use Rattle.lists.proofs.Tests.{cases}
 use Rattle.lists.proofs.Sums.{joined_append}

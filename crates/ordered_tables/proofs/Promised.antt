@@ -1,6 +1,5 @@
 -- A start from a table that was put in order is accepted, and so the service bounds and its needs hold of it. Assumes nothing.
-use mathlib.Core.Path.{◌≡◌}
-use borrow.Author.Tests.{le-leb}
+use Rattle.std.proofs.Common.{◌≡◌, le-leb}
 use Rattle.terms.specs.Limits.{max_slot}
 use Rattle.terms.specs.Refusals.{gate, then}
 use Rattle.terms.specs.Answers.{accepted}

@@ -1,11 +1,7 @@
 -- The theorems about an order. Assumes nothing.
-use mathlib.Core.Path.{◌≡◌, refl, ap, sym, ◌∙◌}
-use mathlib.Core.List.{List, [], append-nil}
+use Rattle.std.proofs.Common.{◌≡◌, refl, ap, sym, ◌∙◌, List, [], append-nil, ℕ, ◌≤◌, arith, length, drop, replicate, length-take-le, drop_at}
 use mathlib.Core.Option.{Option, none, some}
-use Prim.Native.Nat.{ℕ, ◌≤◌}
-use native.Mathlib.Omega.{arith}
-use lib.ListN.{length, drop, replicate}
-use lib.Seq.{length-take-le, take-length, drop-length, drop_at}
+use lib.Seq.{take-length, drop-length}
 use Rattle.lists.specs.Orders.{Permuted}
 use Rattle.lists.specs.Overwriting.{written_over}
 use Rattle.lists.proofs.Orders.{permuted_length}

@@ -1,11 +1,6 @@
 -- An element of a list goes down to place p, and each between them up by one: what the list is on the way, and afterwards. Assumes nothing.
-use mathlib.Core.Path.{◌≡◌, ap, sym, ◌∙◌}
-use mathlib.Core.List.{List, [], ◌∷◌, ◌++◌}
-use Prim.Native.Nat.{ℕ, suc, ◌+◌, ◌-◌, ◌≤◌, ◌<◌}
-use native.Mathlib.Numerals.{add-one}
-use native.Mathlib.Omega.{arith}
-use lib.ListN.{length, get_or, set, take, drop, take-append-drop, length-take}
-use lib.Seq.{take-suc, drop-cons, append_snoc, take-take, get_or-take, take_at, drop_at, set_at, get_or-append-add, get_or-drop, take-append-add, drop-append-add, take-add, drop-drop}
+use Rattle.std.proofs.Common.{◌≡◌, ap, sym, ◌∙◌, List, [], ◌∷◌, ◌++◌, ℕ, suc, ◌+◌, ◌-◌, ◌≤◌, ◌<◌, add-one, arith, length, get_or, set, take, drop, take-append-drop, length-take, take-suc, drop-cons, take-take, get_or-take, take_at, drop_at, get_or-append-add, get_or-drop, take-add, drop-drop}
+use lib.Seq.{append_snoc, set_at, take-append-add, drop-append-add}
 use Rattle.lists.specs.Sums.{total}
 use Rattle.lists.specs.Orders.{without}
 use Rattle.lists.proofs.Sums.{total_append}

@@ -1,13 +1,6 @@
 -- A need that holds, holds with fewer above it: that is why the search never has to take a choice back. Assumes nothing.
-use mathlib.Core.Path.{◌≡◌, refl, ap, ◌∙◌}
-use mathlib.Core.Bool.{true}
-use mathlib.Core.List.{List}
-use Prim.Native.Nat.{ℕ, suc, ◌+◌, ◌-◌, ◌*◌, ◌≤◌, ◌<◌}
-use native.Mathlib.Nat.{mul-le-mul, mul-le-mul_left, mul-le-mul_right}
+use Rattle.std.proofs.Common.{◌≡◌, refl, ap, ◌∙◌, true, List, ℕ, suc, ◌+◌, ◌-◌, ◌*◌, ◌≤◌, ◌<◌, mul-le-mul, mul-le-mul_left, mul-le-mul_right, arith, leb-true, le-leb, eqb-true, eq-eqb, length, take}
 use native.Mathlib.Decide.{dec_le}
-use native.Mathlib.Omega.{arith}
-use borrow.Author.Tests.{leb-true, le-leb, eqb-true, eq-eqb}
-use lib.ListN.{length, take}
 use Rattle.lists.specs.Sums.{total}
 use Rattle.lists.specs.Orders.{without, Permuted, Tells}
 use Rattle.lists.proofs.Tests.{and_true, true_and}

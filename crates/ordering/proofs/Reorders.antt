@@ -1,9 +1,6 @@
 -- Tables in another order: a table that passes 1 to 6 and 17 passes them in every order, and admission is then that each need holds. Assumes
 -- nothing.
-use mathlib.Core.Path.{◌≡◌, sym}
-use Prim.Native.Nat.{ℕ, ◌+◌, ◌≤◌}
-use native.Mathlib.Omega.{arith}
-use borrow.Author.Tests.{leb-true, le-leb}
+use Rattle.std.proofs.Common.{◌≡◌, sym, ℕ, ◌+◌, ◌≤◌, arith, leb-true, le-leb}
 use Rattle.lists.specs.Sums.{total}
 use Rattle.lists.proofs.Orders.{also_at, permuted_total}
 use Rattle.terms.specs.declared.place.Requestor.{Requestor}

@@ -1,13 +1,9 @@
 -- The search: what it finds is an order whose needs hold, and where it finds none there is none. Assumes nothing.
-use mathlib.Core.Path.{◌≡◌, refl, ap, ap₂, sym, ◌∙◌}
-use mathlib.Core.Bool.{Bool, true, false}
-use mathlib.Core.List.{List, [], ◌∷◌, ◌++◌}
+use Rattle.std.proofs.Common.{◌≡◌, refl, ap, ap₂, sym, ◌∙◌, Bool, true, false, List, [], ◌∷◌, ◌++◌, ℕ, zero, suc, ◌-◌, ◌≤◌, ◌<◌, arith, length, take, drop, length-append, length-take, take_at, take-take, drop-cons, get_or-take}
 use mathlib.Core.Option.{Option, none, some, bind}
-use Prim.Native.Nat.{ℕ, zero, suc, ◌-◌, ◌≤◌, ◌<◌}
 use native.Mathlib.Decide.{dec_lt}
-use native.Mathlib.Omega.{arith}
-use lib.ListN.{length, take, drop, length-append, length-take, get_or-append}
-use lib.Seq.{take_at, take-append-le, take-take, drop-cons, get_or-take, get_or-append_seam, append_snoc}
+use lib.ListN.{get_or-append}
+use lib.Seq.{take-append-le, get_or-append_seam, append_snoc}
 use Rattle.lists.specs.Choices.{pick}
 use Rattle.lists.specs.Sums.{total}
 use Rattle.lists.specs.Orders.{without, occurrences, Permuted}

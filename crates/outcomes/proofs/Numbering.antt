@@ -1,7 +1,5 @@
 -- A refusal as a code. Assumes nothing.
-use mathlib.Core.Path.{◌≡◌}
-use Prim.Native.Nat.{ℕ, ◌+◌, ◌*◌, ◌≤◌, ◌<◌}
-use native.Mathlib.Omega.{arith}
+use Rattle.std.proofs.Common.{◌≡◌, ℕ, ◌+◌, ◌*◌, ◌≤◌, ◌<◌, arith}
 use Rattle.terms.specs.declared.refusals.Named.{Named}
 use Rattle.terms.specs.declared.refusals.Named.TheVariants as named
 use Rattle.terms.specs.declared.refusals.Refusal.{Refusal}

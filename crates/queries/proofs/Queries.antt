@@ -1,11 +1,6 @@
 -- What is known of a place that may be asked about, and the ways out of a look at where the line stands. For any room.
 -- Assumes nothing.
-use mathlib.Core.Path.{◌≡◌, refl, sym}
-use mathlib.Core.Bool.{true, false}
-use mathlib.Core.List.{List, [], ◌∷◌}
-use Prim.Native.Nat.{ℕ, ◌≤◌, ◌<◌}
-use native.Mathlib.Omega.{arith}
-use lib.ListN.{length, set}
+use Rattle.std.proofs.Common.{◌≡◌, refl, sym, true, false, List, [], ◌∷◌, ℕ, ◌≤◌, ◌<◌, arith, length, set}
 use Rattle.lists.specs.Overwriting.{written_over}
 use Rattle.terms.specs.Table.{requestor_at}
 use Rattle.terms.specs.State.{State, account_at, sound, place_verdict}

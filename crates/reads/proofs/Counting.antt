@@ -1,11 +1,6 @@
 -- The counts of a slot, read one after the other. Assumes nothing.
-use mathlib.Core.Path.{◌≡◌, refl, sym, ◌∙◌}
-use mathlib.Core.List.{List, [], ◌∷◌, ◌++◌}
-use Prim.Native.Nat.{ℕ, ◌+◌, ◌-◌, ◌≤◌, ◌<◌}
-use native.Mathlib.Omega.{arith}
+use Rattle.std.proofs.Common.{◌≡◌, refl, sym, ◌∙◌, List, [], ◌∷◌, ◌++◌, ℕ, ◌+◌, ◌-◌, ◌≤◌, ◌<◌, arith, length, take, drop, set, length-drop, take_at, drop-drop}
 use borrow.Author.Rules.{part_to_end}
-use lib.ListN.{length, take, drop, set, length-drop}
-use lib.Seq.{take_at, drop-drop}
 use Rattle.lists.specs.Overwriting.{written_over}
 use Rattle.lists.proofs.Overwriting.{stored_behind, length_over}
 use Rattle.terms.specs.declared.refusals.Refusal.{Refusal}

@@ -1,10 +1,5 @@
 -- What `replay` writes is what the service bounds speak of. Assumes nothing.
-use mathlib.Core.Path.{◌≡◌, refl, ap, sym, ◌∙◌}
-use mathlib.Core.List.{List, [], ◌∷◌, ◌++◌, append_assoc}
-use Prim.Native.Nat.{ℕ, ◌+◌, ◌*◌, ◌≤◌}
-use native.Mathlib.Omega.{arith}
-use lib.ListN.{length, take, drop, length-drop, take-append-drop}
-use lib.Seq.{take_at, drop_at, length-take-le}
+use Rattle.std.proofs.Common.{◌≡◌, refl, ap, sym, ◌∙◌, List, [], ◌∷◌, ◌++◌, append_assoc, ℕ, ◌+◌, ◌*◌, ◌≤◌, arith, length, take, drop, length-drop, take-append-drop, take_at, drop_at, length-take-le}
 use Rattle.lists.specs.Sums.{total, joined}
 use Rattle.lists.specs.Overwriting.{written_over}
 use Rattle.lists.specs.Runs.{Result, end, answers}

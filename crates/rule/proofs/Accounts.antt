@@ -1,11 +1,6 @@
 -- One account in a slot: when its place is eligible, and what passing it over makes of it. Assumes nothing.
-use mathlib.Core.Path.{◌≡◌, sym}
-use mathlib.Core.Bool.{true, false}
-use Prim.Native.Nat.{ℕ, ◌+◌, ◌≤◌, ◌<◌}
-use native.Mathlib.Nat.{min-eq_right, min-eq_left, le_of_lt}
-use native.Mathlib.Omega.{arith}
-use borrow.Author.Tests.{ltb-true, leb-true, leb-false, lt-ltb, le-ltb}
-use lib.Dec.{ltb, leb}
+use Rattle.std.proofs.Common.{◌≡◌, sym, true, false, ℕ, ◌+◌, ◌≤◌, ◌<◌, le_of_lt, arith, ltb-true, leb-true, leb-false, lt-ltb, le-ltb, ltb, leb}
+use native.Mathlib.Nat.{min-eq_right, min-eq_left}
 use Rattle.lists.proofs.Tests.{cases, true_false}
 use Rattle.terms.specs.declared.place.Requestor.{Requestor}
 use Rattle.terms.specs.declared.place.Account.{Account}

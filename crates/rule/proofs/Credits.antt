@@ -1,11 +1,7 @@
 -- What one slot does to the credits of the first k places: together they rise by at most the rates, less D for a grant; and they
 -- stay within the bursts. Assumes nothing.
-use mathlib.Core.Path.{◌≡◌}
-use mathlib.Core.List.{List, [], ◌∷◌}
-use Prim.Native.Nat.{ℕ, zero, suc, ◌+◌, ◌*◌, ◌≤◌, ◌<◌}
-use native.Mathlib.Omega.{arith}
+use Rattle.std.proofs.Common.{◌≡◌, List, [], ◌∷◌, ℕ, zero, suc, ◌+◌, ◌*◌, ◌≤◌, ◌<◌, arith, length, take}
 use native.Mathlib.Decide.{ℕ_discrete}
-use lib.ListN.{length, take}
 use Rattle.lists.specs.Sums.{total}
 use Rattle.terms.specs.declared.place.Requestor.{Requestor}
 use Rattle.terms.specs.declared.place.Account.{Account}

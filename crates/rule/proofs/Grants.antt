@@ -1,7 +1,6 @@
 -- What one grant counts for a place and for the first k places. Assumes nothing.
-use mathlib.Core.Path.{◌≡◌, refl}
-use Prim.Native.Nat.{ℕ, suc}
-use lib.Dec.{ltb, leb-suc-zero, leb-suc-suc, eqb-suc-zero, eqb-suc-suc}
+use Rattle.std.proofs.Common.{◌≡◌, refl, ℕ, suc, ltb}
+use lib.Dec.{leb-suc-zero, leb-suc-suc, eqb-suc-zero, eqb-suc-suc}
 use Rattle.lists.proofs.Tests.{cases}
 use Rattle.rule.specs.declared.rule.Grant.{Grant}
 use Rattle.rule.specs.declared.rule.Grant.TheVariants.{Nobody, Place}

@@ -1,10 +1,5 @@
 -- A slot keeps a sound state sound. Assumes nothing.
-use mathlib.Core.Path.{◌≡◌, ap, ◌∙◌}
-use mathlib.Core.Bool.{true}
-use Prim.Native.Nat.{ℕ, ◌≤◌, ◌<◌}
-use native.Mathlib.Omega.{arith}
-use lib.ListN.{length, take, drop}
-use lib.Seq.{take-take}
+use Rattle.std.proofs.Common.{◌≡◌, ap, ◌∙◌, true, ℕ, ◌≤◌, ◌<◌, arith, length, take, drop, take-take}
 use Rattle.lists.specs.Sums.{total, every}
 use Rattle.terms.specs.State.{State, credit, account_clear}
 use Rattle.terms.specs.Limits.{max_slot}

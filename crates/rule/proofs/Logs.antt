@@ -1,13 +1,6 @@
 -- Slots one after the other: one slot more at the end, that the state stays sound, and their log in a lent buffer. Assumes nothing.
-use mathlib.Core.Path.{◌≡◌, refl, ap, sym, ◌∙◌}
-use mathlib.Core.Bool.{true, false}
-use mathlib.Core.List.{List, [], ◌∷◌, ◌++◌, append-nil}
-use Prim.Native.Nat.{ℕ, zero, suc, ◌+◌, ◌-◌, ◌≤◌, ◌<◌}
-use native.Mathlib.Nat.{zero-add, suc-add}
-use native.Mathlib.Omega.{arith}
-use borrow.Author.Tests.{leb-true}
+use Rattle.std.proofs.Common.{◌≡◌, refl, ap, sym, ◌∙◌, true, false, List, [], ◌∷◌, ◌++◌, append-nil, ℕ, zero, suc, ◌+◌, ◌-◌, ◌≤◌, ◌<◌, zero-add, suc-add, arith, leb-true, length, set, take, drop, length-take, drop_of_length-le}
 use borrow.Rule.Slice.PartMut.{put_mid}
-use lib.ListN.{length, set, take, drop, length-take, drop_of_length-le}
 use Rattle.lists.specs.Overwriting.{written_over}
 use Rattle.lists.proofs.Overwriting.{length_over, written_behind}
 use Rattle.terms.specs.declared.refusals.Refusal.{Refusal}

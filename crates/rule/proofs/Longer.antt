@@ -1,12 +1,6 @@
 -- The lengths of a state's lists stay, whatever the calls; and a state with clear rows and accounts behind its own: the rule and every call
 -- on it are those of the state, and leave the same behind. Assumes nothing.
-use mathlib.Core.Path.{◌≡◌, refl, ap, ◌∙◌}
-use mathlib.Core.List.{List, [], ◌∷◌, ◌++◌}
-use Prim.Native.Nat.{ℕ, zero, suc, ◌+◌, ◌≤◌, ◌<◌}
-use native.Mathlib.Omega.{arith}
-use borrow.Author.Tests.{ltb-true}
-use lib.Dec.{ltb}
-use lib.ListN.{length, replicate, length-take, length-set}
+use Rattle.std.proofs.Common.{◌≡◌, refl, ap, ◌∙◌, List, [], ◌∷◌, ◌++◌, ℕ, zero, suc, ◌+◌, ◌≤◌, ◌<◌, arith, ltb-true, ltb, length, replicate, length-take, length-set}
 use lib.Seq.{set-append_left}
 use Rattle.lists.specs.Runs.{Result}
 use Rattle.lists.proofs.Tests.{cases}

@@ -1,9 +1,5 @@
 -- Words that pass test 23 hold a table that passes checks 1 to 6; and the ways out of 23 and 11. For any room. Assumes nothing.
-use mathlib.Core.Path.{◌≡◌}
-use mathlib.Core.Bool.{true, false}
-use mathlib.Core.List.{List}
-use Prim.Native.Nat.{ℕ, ◌≤◌, ◌<◌}
-use borrow.Author.Tests.{lt-ltb, le-ltb}
+use Rattle.std.proofs.Common.{◌≡◌, true, false, List, ℕ, ◌≤◌, ◌<◌, lt-ltb, le-ltb}
 use Rattle.terms.specs.State.{State, sound, place_verdict}
 use Rattle.terms.specs.Refusals.{faultless, fault, refusal, gate}
 use Rattle.terms.proofs.Sound.{sound_table}

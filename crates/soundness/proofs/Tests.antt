@@ -1,11 +1,6 @@
 -- Test 23 is a row of tests. Assumes nothing.
-use mathlib.Core.Path.{◌≡◌, refl, sym, ◌∙◌}
-use mathlib.Core.Bool.{Bool, true, false, ◌&&◌}
-use mathlib.Core.List.{List}
-use Prim.Native.Nat.{ℕ, ◌≤◌, ◌<◌}
-use borrow.Author.Tests.{le-leb, lt-leb}
-use lib.Dec.{leb}
-use lib.ListN.{length, drop, get_or}
+use Rattle.std.proofs.Common.{◌≡◌, refl, sym, ◌∙◌, Bool, true, false, ◌&&◌, List, ℕ, ◌≤◌, ◌<◌, le-leb, leb, length, drop, get_or}
+use borrow.Author.Tests.{lt-leb}
 use Rattle.lists.specs.Choices.{in_range}
 use Rattle.lists.specs.Sums.{total, every}
 use Rattle.lists.proofs.Tests.{and_false, in_range_true}

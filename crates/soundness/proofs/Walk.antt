@@ -1,14 +1,6 @@
 -- The walk of test 23: what it has found after p places, what makes it stop, and its end. Assumes nothing.
-use mathlib.Core.Path.{◌≡◌, refl, ap, sym, ◌∙◌}
-use mathlib.Core.Bool.{true, false, ◌&&◌}
-use mathlib.Core.List.{List}
-use Prim.Native.Nat.{ℕ, suc, ◌+◌, ◌-◌, ◌*◌, ◌≤◌, ◌<◌}
-use native.Mathlib.Numerals.{add-one}
-use native.Mathlib.Omega.{arith}
-use borrow.Author.Tests.{le-leb, lt-leb}
-use lib.Dec.{leb}
-use lib.ListN.{length, take, drop, get_or, length-take}
-use lib.Seq.{get_or-take}
+use Rattle.std.proofs.Common.{◌≡◌, refl, ap, sym, ◌∙◌, true, false, ◌&&◌, List, ℕ, suc, ◌+◌, ◌-◌, ◌*◌, ◌≤◌, ◌<◌, add-one, arith, le-leb, leb, length, take, drop, get_or, length-take, get_or-take}
+use borrow.Author.Tests.{lt-leb}
 use Rattle.lists.specs.Sums.{total, every, up_to}
 use Rattle.lists.proofs.Tests.{cases, true_false, and_true, true_and, and_false, every_more, every_fails, up_to_fails}
 use Rattle.lists.proofs.Sums.{total_take_suc}

@@ -1,7 +1,5 @@
 -- A start from a table's bytes: what it comes to where they are refused, and once they are read; and a reading as a start. Assumes nothing.
-use mathlib.Core.Path.{◌≡◌, refl, ap, sym}
-use mathlib.Core.List.{List, []}
-use Prim.Native.Nat.{ℕ}
+use Rattle.std.proofs.Common.{◌≡◌, refl, ap, sym, List, [], ℕ}
 use Rattle.terms.specs.declared.refusals.Refusal.{Refusal}
 use Rattle.terms.specs.Table.{Table, rate_sum_verdict}
 use Rattle.terms.specs.Refusals.{Verdict, faultless, fault, gate, then, resolve}

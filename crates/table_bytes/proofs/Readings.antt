@@ -1,12 +1,7 @@
 -- What the parts of a reading come to, part after part, and what a reading that is not refused has taken. Assumes nothing.
-use mathlib.Core.Path.{◌≡◌, refl, ap, sym, ◌∙◌}
-use mathlib.Core.List.{List, [], ◌∷◌, ◌++◌, append-nil, append_assoc}
-use Prim.Native.Nat.{ℕ, suc, ◌+◌, ◌-◌, ◌≤◌, ◌<◌}
-use native.Mathlib.Numerals.{add-one}
-use native.Mathlib.Omega.{arith}
+use Rattle.std.proofs.Common.{◌≡◌, refl, ap, sym, ◌∙◌, List, [], ◌∷◌, ◌++◌, append-nil, append_assoc, ℕ, suc, ◌+◌, ◌-◌, ◌≤◌, ◌<◌, add-one, arith, length, take, drop, set, replicate, length-append, length-drop, drop-drop}
 use borrow.Author.Rules.{part_to_end}
-use lib.ListN.{length, take, drop, set, replicate, length-append, length-drop, length-replicate}
-use lib.Seq.{drop-drop}
+use lib.ListN.{length-replicate}
 use Rattle.lists.proofs.Overwriting.{stored_behind}
 use Rattle.groups.specs.declared.reading.Reading.TheVariants.{Number, Ended, Malformed}
 use Rattle.groups.specs.Groups.{number_of}

@@ -1,11 +1,6 @@
 -- A table's numbers in a list, and each way out of a writing of their bytes. Assumes nothing.
-use mathlib.Core.Path.{◌≡◌, refl, ap}
-use mathlib.Core.List.{List, ◌∷◌}
-use Prim.Native.Nat.{ℕ, suc, ◌+◌, ◌-◌, ◌*◌, ◌≤◌, ◌<◌}
-use native.Mathlib.Omega.{arith}
-use borrow.Author.Tests.{lt-leb, le-leb}
-use lib.ListN.{length, set, take, drop, length-append, length-take}
-use lib.Seq.{take_at, get_or-take, length-take-le}
+use Rattle.std.proofs.Common.{◌≡◌, refl, ap, List, ◌∷◌, ℕ, suc, ◌+◌, ◌-◌, ◌*◌, ◌≤◌, ◌<◌, arith, le-leb, length, set, take, drop, length-append, length-take, take_at, get_or-take, length-take-le}
+use borrow.Author.Tests.{lt-leb}
 use Rattle.lists.specs.Sums.{joined}
 use Rattle.lists.specs.Overwriting.{written_over}
 use Rattle.lists.proofs.Sums.{joined_next, length_joined_same}

@@ -1,11 +1,7 @@
 -- The sums above a place of a table that passes checks 1 to 6: with the place's own rate the rates are at most D, and with its own burst the
 -- bursts still fit.
 -- Assumes nothing.
-use mathlib.Core.Path.{◌≡◌, refl, ap}
-use Prim.Native.Nat.{ℕ, suc, ◌+◌, ◌*◌, ◌≤◌, ◌<◌}
-use native.Mathlib.Omega.{arith}
-use lib.ListN.{length, get_or, length-take}
-use lib.Seq.{get_or-take, take-take}
+use Rattle.std.proofs.Common.{◌≡◌, refl, ap, ℕ, suc, ◌+◌, ◌*◌, ◌≤◌, ◌<◌, arith, length, get_or, length-take, get_or-take, take-take}
 use Rattle.lists.specs.Sums.{total}
 use Rattle.lists.proofs.Sums.{total_take_drop, total_take_rises, total_take_suc}
 use Rattle.terms.specs.Table.{Table, rate, burst, no_requestor, requestors_of, table_verdict}

@@ -1,6 +1,6 @@
 -- Each case of the code's enum stands on the side that its number says: 21 to 29 the state, all others the input.
 -- Assumes nothing.
-use mathlib.Core.Path.{refl}
+use Rattle.std.proofs.Common.{refl}
 use Rattle.terms.specs.declared.refusals.InputRefusal.TheVariants as input
 use Rattle.terms.specs.declared.refusals.StateRefusal.TheVariants as state
 use Rattle.terms.specs.declared.refusals.Cause.TheVariants as cause

@@ -1,13 +1,5 @@
 -- What checks that find no fault say. Assumes nothing.
-use mathlib.Core.Path.{◌≡◌, refl, ap, sym, ◌∙◌}
-use mathlib.Core.Bool.{Bool, true, false}
-use mathlib.Core.List.{List, [], ◌∷◌}
-use mathlib.Core.Logic.{◌⊎◌, inl, inr}
-use Prim.Native.Nat.{ℕ, zero, suc, ◌+◌, ◌*◌, ◌≤◌, ◌<◌}
-use native.Mathlib.Nat.{mul-le-mul_right, not-suc-le-zero, zero-add, add-zero, add-suc, suc-add}
-use native.Mathlib.Omega.{arith}
-use borrow.Author.Tests.{leb-true, le-leb}
-use lib.ListN.{length, drop, length-take}
+use Rattle.std.proofs.Common.{◌≡◌, refl, ap, sym, ◌∙◌, Bool, true, false, List, [], ◌∷◌, ◌⊎◌, inl, inr, ℕ, zero, suc, ◌+◌, ◌*◌, ◌≤◌, ◌<◌, mul-le-mul_right, not-suc-le-zero, zero-add, add-zero, add-suc, suc-add, arith, leb-true, le-leb, length, drop, length-take}
 use Rattle.lists.specs.Sums.{total, every}
 use Rattle.lists.proofs.Sums.{total_most}
 use Rattle.lists.proofs.Tests.{in_range_true, in_range_lem}

@@ -1,12 +1,9 @@
 -- A quotient rounded up is the least whole number that is not below its fraction, and so the finish figure is of its two fractions' sum.
 -- Assumes nothing.
-use mathlib.Core.Path.{◌≡◌, sym, ◌∙◌}
-use Prim.Native.Nat.{ℕ, ◌+◌, ◌-◌, ◌*◌, ◌≤◌, ◌<◌}
-use native.Mathlib.Nat.{mul-le-mul, mul-le-mul_left, div-add-mod, mod-lt}
+use Rattle.std.proofs.Common.{◌≡◌, sym, ◌∙◌, ℕ, ◌+◌, ◌-◌, ◌*◌, ◌≤◌, ◌<◌, mul-le-mul, mul-le-mul_left, mod-lt, arith, le-leb, leb}
+use native.Mathlib.Nat.{div-add-mod}
 use native.Mathlib.Decide.{dec_le}
-use native.Mathlib.Omega.{arith}
-use borrow.Author.Tests.{le-leb, lt-leb}
-use lib.Dec.{leb}
+use borrow.Author.Tests.{lt-leb}
 use Rattle.terms.specs.Figures.{rounded_up, finish_of}
 
 module _ (a b : ℕ) (some : 1 ≤ b) where

@@ -1,13 +1,7 @@
 -- A state with clear rows and accounts behind its own: the table's checks, test 23 and the figures are those of the state. Assumes nothing.
-use mathlib.Core.Path.{◌≡◌, refl, ap, sym, ◌∙◌}
-use mathlib.Core.Bool.{Bool, true, false, ◌&&◌}
-use mathlib.Core.List.{List, [], ◌∷◌, ◌++◌}
-use Prim.Native.Nat.{ℕ, zero, suc, ◌+◌, ◌≤◌, ◌<◌}
-use native.Mathlib.Omega.{arith}
-use borrow.Author.Tests.{leb-true, leb-false, le-leb}
-use lib.Dec.{leb}
-use lib.ListN.{length, get_or, take, drop, replicate, length-append, length-replicate, length-take}
-use lib.Seq.{take-append-le, drop-append-le, get_or-take}
+use Rattle.std.proofs.Common.{◌≡◌, refl, ap, sym, ◌∙◌, Bool, true, false, ◌&&◌, List, [], ◌∷◌, ◌++◌, ℕ, zero, suc, ◌+◌, ◌≤◌, ◌<◌, arith, leb-true, leb-false, le-leb, leb, length, get_or, take, drop, replicate, length-append, length-take, get_or-take}
+use lib.ListN.{length-replicate}
+use lib.Seq.{take-append-le, drop-append-le}
 use Rattle.lists.specs.Sums.{every, up_to}
 use Rattle.lists.proofs.Tests.{cases}
 use Rattle.terms.specs.declared.place.Requestor.{Requestor}

@@ -1,15 +1,8 @@
 -- What test 23 says of a state whose arrays have `limit` elements each, and the other way round; how large a credit can be; and
 -- an accepted start's state passes. Assumes nothing.
-use mathlib.Core.Path.{◌≡◌, refl, ap, sym, ◌∙◌}
-use mathlib.Core.Bool.{true}
-use mathlib.Core.List.{List, [], ◌∷◌, map}
-use Prim.Native.Nat.{ℕ, zero, suc, ◌*◌, ◌≤◌, ◌<◌}
+use Rattle.std.proofs.Common.{◌≡◌, refl, ap, sym, ◌∙◌, true, List, [], ◌∷◌, map, ℕ, zero, suc, ◌*◌, ◌≤◌, ◌<◌, arith, ltb-true, leb-true, le-leb, eqb-true, eq-eqb, leb, eqb, length, take, drop, length-take, get_or-take, length-take-le}
 use native.Mathlib.Decide.{dec_le}
-use native.Mathlib.Omega.{arith}
-use borrow.Author.Tests.{ltb-true, leb-true, le-leb, eqb-true, eq-eqb}
-use lib.Dec.{leb, eqb}
-use lib.ListN.{length, take, drop, length-take, length-map, get_or-map}
-use lib.Seq.{get_or-take, length-take-le}
+use lib.ListN.{length-map, get_or-map}
 use Rattle.lists.specs.Sums.{total, every, up_to}
 use Rattle.lists.proofs.Tests.{true_false, and_true, true_and, every_at, at_every, up_to_at, at_up_to}
 use Rattle.lists.proofs.Sums.{total_take_drop, total_take_rises, total_take_map, total_most, at_most_total}

@@ -1,13 +1,7 @@
 -- A table that is made of its D, its N and the rows of its places: its rows and checks, and that every table whose other rows are 0 is
 -- made so; and that no call both hands back a table and is refused. Assumes nothing.
-use mathlib.Core.Path.{◌≡◌, refl, ap, ap₂, sym, ◌∙◌}
-use mathlib.Core.Bool.{true}
-use mathlib.Core.List.{List, [], ◌∷◌, ◌++◌}
-use Prim.Native.Nat.{ℕ, zero, suc, ◌≤◌}
-use native.Mathlib.Omega.{arith}
-use borrow.Author.Tests.{eqb-true}
-use lib.ListN.{length, take, drop, replicate, take-append-drop, length-replicate}
-use lib.Seq.{length-take-le, take_at, drop_at}
+use Rattle.std.proofs.Common.{◌≡◌, refl, ap, ap₂, sym, ◌∙◌, true, List, [], ◌∷◌, ◌++◌, ℕ, zero, suc, ◌≤◌, arith, eqb-true, length, take, drop, replicate, take-append-drop, length-take-le, take_at, drop_at}
+use lib.ListN.{length-replicate}
 use Rattle.lists.specs.Sums.{every}
 use Rattle.lists.specs.Overwriting.{written_over}
 use Rattle.lists.proofs.Tests.{and_true}

@@ -1,6 +1,5 @@
 -- `lead_parts::count_grants` meets its contract. The loop's invariant, `Counted`: of the first i bytes, k are p. Assumes nothing.
-use Prim.Native.Nat.{◌-◌}
-use lib.ListN.{length}
+use Rattle.std.proofs.Common.{◌-◌, length}
 use Rattle.lead_parts.proofs.Counts.{Counted}
 use Rattle.lead_parts.proofs.count_grants.Given as goal
 

@@ -1,4 +1,4 @@
-use native.Mathlib.Omega.{arith}
+use Rattle.std.proofs.Common.{arith}
 use Rattle.number_bytes.proofs.Counts.{counted_none, counted_next, counted_few}
 use Rattle.number_bytes.proofs.bytes_len.Goals as goal
 

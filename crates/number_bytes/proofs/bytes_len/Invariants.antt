@@ -1,7 +1,6 @@
 -- `number_bytes::bytes_len` meets its contract. The loop's invariant, `Counted`: the first i numbers take k bytes. Assumes
 -- nothing.
-use Prim.Native.Nat.{◌-◌}
-use lib.ListN.{length}
+use Rattle.std.proofs.Common.{◌-◌, length}
 use Rattle.number_bytes.proofs.Counts.{Counted}
 use Rattle.number_bytes.proofs.bytes_len.Given as goal
 

@@ -1,4 +1,4 @@
-use native.Mathlib.Omega.{arith}
+use Rattle.std.proofs.Common.{arith}
 use Rattle.number_bytes.proofs.Counts.{counted_part, written_none, written_next}
 use Rattle.number_bytes.proofs.put_numbers.Goals as goal
 

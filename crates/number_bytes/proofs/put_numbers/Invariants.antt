@@ -1,7 +1,6 @@
 -- `number_bytes::put_numbers` meets its contract. The loop's invariant, `Written`: the bytes of the first i numbers stand in front
 -- of what the buffer held, up to `at`. Assumes nothing.
-use Prim.Native.Nat.{◌-◌}
-use lib.ListN.{length}
+use Rattle.std.proofs.Common.{◌-◌, length}
 use Rattle.number_bytes.proofs.Counts.{Written}
 use Rattle.number_bytes.proofs.put_numbers.Given as goal
 

@@ -1,5 +1,4 @@
-use mathlib.Core.Path.{◌∙◌}
-use native.Mathlib.Omega.{arith}
+use Rattle.std.proofs.Common.{◌∙◌, arith}
 use Rattle.terms.specs.Limits.{max_places}
 use Rattle.layout.proofs.RoundTrip.{right}
 use Rattle.opening.proofs.Opened.{opening_none, opening_more, opened_all}

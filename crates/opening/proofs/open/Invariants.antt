@@ -1,6 +1,6 @@
 -- `opening::open` meets its contract. The loop's invariant: the first p accounts are fresh, and the others as they were. Assumes
 -- nothing.
-use Prim.Native.Nat.{◌-◌}
+use Rattle.std.proofs.Common.{◌-◌}
 use Rattle.opening.proofs.Opened.{Opening}
 use Rattle.opening.proofs.open.Given as goal
 

@@ -1,7 +1,6 @@
 -- `ordered_bytes::order_bytes` meets its contract. What was put in order passes admission, so that the writer's checks leave 14. Assumes
 -- nothing.
-use mathlib.Core.Path.{◌≡◌, refl, ap, sym, ◌∙◌}
-use lib.ListN.{length, replicate}
+use Rattle.std.proofs.Common.{◌≡◌, refl, ap, sym, ◌∙◌, length, replicate, rules}
 use Rattle.terms.specs.Limits.{max_places}
 use Rattle.terms.specs.Figures.{admission_verdict}
 use Rattle.terms.specs.Answers.{order_answer_of}
@@ -13,8 +12,6 @@ use Rattle.table_bytes.specs.Reading.{numbers_read}
 use Rattle.table_bytes.specs.Writing.{write_table}
 use Rattle.ordered_bytes.specs.OrderBytes.{order_read, written_in_order, order_bytes}
 use Rattle.ordered_bytes.proofs.Ordered.{answer_admitted, as_the_writer}
-use borrow.Author.Rules.{rules}
-use Rattle.std.proofs.Common.{rules}
 use Rattle.ordered_bytes.proofs.order_bytes.Goals as goal
 
 pub order_read-answer-requires : goal.order_read-answer-requires

@@ -1,5 +1,5 @@
 -- `ordered_bytes::order_read` meets its contract. The bytes are read into the words, and what they then are is put in order. Assumes nothing.
-use mathlib.Core.Path.{ap, sym, ◌∙◌}
+use Rattle.std.proofs.Common.{ap, sym, ◌∙◌}
 use Rattle.terms.specs.Limits.{max_places}
 use Rattle.terms.specs.Refusals.{refusal_of}
 use Rattle.terms.specs.TableResult.{refuse}

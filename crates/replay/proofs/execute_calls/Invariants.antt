@@ -1,5 +1,5 @@
 -- `replay::execute_calls` meets its contract. The loop's invariant, `Standing`: state and lent numbers are those of the run of the first i calls. Assumes nothing.
-use Prim.Native.Nat.{◌-◌}
+use Rattle.std.proofs.Common.{◌-◌}
 use Rattle.terms.specs.Limits.{max_places}
 use Rattle.arbiter.specs.ByValue.{held}
 use Rattle.replay.proofs.Replays.{Standing}

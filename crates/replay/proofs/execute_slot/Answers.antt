@@ -1,5 +1,5 @@
 -- `replay::execute_slot` meets its contract. By the case of the slot's answer; no refusal of a call names a place. Assumes nothing.
-use mathlib.Core.Path.{refl}
+use Rattle.std.proofs.Common.{refl}
 use Rattle.replay.specs.Replay.{answer_words}
 use Rattle.replay.proofs.Replays.{executes}
 use Rattle.replay.proofs.execute_slot.Goals as goal

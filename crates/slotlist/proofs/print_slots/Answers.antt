@@ -1,7 +1,5 @@
-use Prim.Native.Nat.{◌-◌, ◌≤◌}
-use native.Mathlib.Omega.{arith}
+use Rattle.std.proofs.Common.{◌-◌, ◌≤◌, arith, length, take, drop, length-drop}
 use borrow.Author.Rules.{part_to_end}
-use lib.ListN.{length, take, drop, length-drop}
 use Rattle.arbiter.specs.ByValue.{held}
 use Rattle.in_a_row.proofs.Progress.{more_takes}
 use Rattle.slotlist.proofs.print_slots.Goals as goal

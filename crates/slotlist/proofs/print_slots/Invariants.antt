@@ -1,8 +1,6 @@
 -- `slotlist::print_slots` meets its contract. The loop's invariant: what is gathered ends inside the page. Each turn takes a byte of the
 -- input or empties the page. Assumes nothing.
-use mathlib.Core.Path.{◌≡◌}
-use Prim.Native.Nat.{◌+◌, ◌*◌, ◌≤◌, min}
-use lib.ListN.{length}
+use Rattle.std.proofs.Common.{◌≡◌, ◌+◌, ◌*◌, ◌≤◌, min, length}
 use Rattle.slotlist.proofs.print_slots.Given as goal
 
 abbrev pub invariant-loop-wrote : goal.invariant-loop-wrote

@@ -1,7 +1,6 @@
 -- `admission::checks::check_rate_sum` meets its contract. One gate. Assumes nothing.
-use mathlib.Core.Path.{◌≡◌, ap, ◌∙◌}
-use native.Mathlib.Omega.{arith}
-use borrow.Author.Tests.{le-leb, lt-leb}
+use Rattle.std.proofs.Common.{◌≡◌, ap, ◌∙◌, arith, le-leb}
+use borrow.Author.Tests.{lt-leb}
 use Rattle.lists.specs.Sums.{total}
 use Rattle.terms.specs.Limits.{max_places}
 use Rattle.terms.specs.Refusals.{gate}

@@ -1,7 +1,4 @@
-use mathlib.Core.Path.{◌≡◌, ap, sym, ◌∙◌}
-use Prim.Native.Nat.{◌+◌, ◌<◌}
-use native.Mathlib.Omega.{arith}
-use lib.ListN.{drop}
+use Rattle.std.proofs.Common.{◌≡◌, ap, sym, ◌∙◌, ◌+◌, ◌<◌, arith, drop}
 use Rattle.lists.specs.Sums.{every}
 use Rattle.terms.specs.Table.{requestor_clear}
 use Rattle.terms.specs.Limits.{max_places}

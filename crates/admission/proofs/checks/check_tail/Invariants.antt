@@ -1,6 +1,6 @@
 -- `admission::checks::check_tail` meets its contract. The loop's invariant: the rows from p on are clear exactly if those from N on
 -- are. Assumes nothing.
-use Prim.Native.Nat.{◌-◌}
+use Rattle.std.proofs.Common.{◌-◌}
 use Rattle.admission.proofs.Walks.{Cleared}
 use Rattle.admission.proofs.checks.check_tail.Given as goal
 

@@ -1,7 +1,6 @@
 -- `admission::figures::finish` meets its contract. Checks 1 to 6 keep the parts within their limits, and they are those of the table's row.
 -- Assumes nothing.
-use mathlib.Core.Path.{◌≡◌, ◌∙◌}
-use native.Mathlib.Omega.{arith}
+use Rattle.std.proofs.Common.{◌≡◌, ◌∙◌, arith}
 use Rattle.terms.specs.Limits.{max_places}
 use Rattle.admission.specs.Checked.{table_in}
 use Rattle.admission.proofs.Rows.{denominator_word, Placed, placed, parts, figure}

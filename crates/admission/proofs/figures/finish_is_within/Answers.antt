@@ -1,6 +1,6 @@
 -- `admission::figures::finish_is_within` meets its contract. Every product is far inside 64 bits, and the figure is the least number of
 -- slots that covers the sum. Assumes nothing.
-use mathlib.Core.Path.{sym}
+use Rattle.std.proofs.Common.{sym}
 use Rattle.terms.proofs.Figures.{finish_within}
 use Rattle.admission.proofs.figures.finish_is_within.Goals as goal
 

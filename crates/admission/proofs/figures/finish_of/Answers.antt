@@ -1,6 +1,6 @@
 -- `admission::figures::finish_of` meets its contract. Parts within their limits keep every product far inside 64 bits, and the figure is
 -- the definition's own quotient. Assumes nothing.
-use native.Mathlib.Omega.{arith}
+use Rattle.std.proofs.Common.{arith}
 use Rattle.terms.specs.Limits.{max_places}
 use Rattle.terms.proofs.Figures.{finish_most}
 use Rattle.admission.proofs.Products.{Products, products}

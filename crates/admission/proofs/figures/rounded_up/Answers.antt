@@ -1,5 +1,5 @@
 -- `admission::figures::rounded_up` meets its contract. The definition itself; a quotient is at most what is divided. Assumes nothing.
-use mathlib.Core.Path.{refl}
+use Rattle.std.proofs.Common.{refl}
 use Rattle.terms.specs.Figures.{rounded_up}
 use Rattle.admission.proofs.figures.rounded_up.Goals as goal
 

@@ -1,8 +1,6 @@
 -- `admission::figures::wait` meets its contract. Checks 1 to 6 leave R at least 1, and the sums are those of the rows of the table.
 -- Assumes nothing.
-use mathlib.Core.Path.{◌≡◌, sym, ap₂, ◌∙◌}
-use Prim.Native.Nat.{◌-◌}
-use native.Mathlib.Omega.{arith}
+use Rattle.std.proofs.Common.{◌≡◌, sym, ap₂, ◌∙◌, ◌-◌, arith}
 use Rattle.terms.specs.Limits.{max_places}
 use Rattle.terms.specs.Figures.{wait_of}
 use Rattle.admission.specs.Checked.{table_in}

@@ -1,7 +1,4 @@
-use mathlib.Core.Path.{◌≡◌, sym, ap, ◌∙◌}
-use Prim.Native.Nat.{◌<◌}
-use native.Mathlib.Omega.{arith}
-use lib.Dec.{leb}
+use Rattle.std.proofs.Common.{◌≡◌, sym, ap, ◌∙◌, ◌<◌, arith, leb}
 use Rattle.terms.specs.Limits.{max_places}
 use Rattle.layout.specs.Words.{row_in}
 use Rattle.admission.specs.Checked.{table_in}

@@ -1,6 +1,6 @@
 -- `admission::finishes::check_finishes` meets its contract. The loop's invariant: the sums above place p are carried along, and check 7
 -- from there on finds what the whole of it finds. Checks 1 to 6 keep the parts of each figure within their limits. Assumes nothing.
-use Prim.Native.Nat.{◌-◌}
+use Rattle.std.proofs.Common.{◌-◌}
 use Rattle.admission.proofs.Walks.{Carried}
 use Rattle.admission.proofs.finishes.check_finishes.Given as goal
 

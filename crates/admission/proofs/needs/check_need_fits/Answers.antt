@@ -1,6 +1,5 @@
 -- `admission::needs::check_need_fits` meets its contract. The row's own limits say that the product fits; then one gate. Assumes nothing.
-use mathlib.Core.Path.{sym, ◌∙◌}
-use native.Mathlib.Omega.{arith}
+use Rattle.std.proofs.Common.{sym, ◌∙◌, arith}
 use Rattle.terms.specs.Refusals.{gate}
 use Rattle.terms.specs.Table.{need_fits_verdict}
 use Rattle.terms.proofs.Checks.{row_open}

@@ -1,5 +1,5 @@
 -- `admission::sums::bursts_above` meets its contract. The loop's invariant: the sum of the bursts above place q. Assumes nothing.
-use Prim.Native.Nat.{◌-◌, ◌≤◌}
+use Rattle.std.proofs.Common.{◌-◌, ◌≤◌}
 use Rattle.terms.specs.Table.{burst}
 use Rattle.admission.proofs.Walks.{Summed}
 use Rattle.admission.proofs.sums.bursts_above.Given as goal

@@ -1,7 +1,4 @@
-use mathlib.Core.Path.{refl}
-use Prim.Native.Nat.{◌+◌, ◌≤◌}
-use native.Mathlib.Omega.{arith}
-use lib.ListN.{length}
+use Rattle.std.proofs.Common.{refl, ◌+◌, ◌≤◌, arith, length}
 use Rattle.terms.specs.Table.{rate}
 use Rattle.layout.specs.Words.{word_count}
 use Rattle.admission.proofs.Walks.{summed_none, summed_more, summed_at_most}

@@ -1,5 +1,5 @@
 -- `admission::sums::rates_above` meets its contract. The loop's invariant: the sum of the rates above place q. Assumes nothing.
-use Prim.Native.Nat.{◌-◌, ◌≤◌}
+use Rattle.std.proofs.Common.{◌-◌, ◌≤◌}
 use Rattle.terms.specs.Table.{rate}
 use Rattle.admission.proofs.Walks.{Summed}
 use Rattle.admission.proofs.sums.rates_above.Given as goal

@@ -1,5 +1,5 @@
 -- `arbiter::admit::admit_right` meets its contract. Checks 1 to 6 and 17 first; check 7 is made only where they found no fault. Assumes nothing.
-use mathlib.Core.Path.{ap, sym, ◌∙◌}
+use Rattle.std.proofs.Common.{ap, sym, ◌∙◌}
 use Rattle.terms.specs.Refusals.{verdict_of, then}
 use Rattle.terms.specs.Figures.{admission_verdict}
 use Rattle.terms.proofs.Checks.{offered_passes}

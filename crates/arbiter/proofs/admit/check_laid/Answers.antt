@@ -1,5 +1,5 @@
 -- `arbiter::admit::check_laid` meets its contract. The length first. Assumes nothing.
-use mathlib.Core.Path.{sym, ◌∙◌}
+use Rattle.std.proofs.Common.{sym, ◌∙◌}
 use Rattle.terms.specs.Refusals.{gate}
 use Rattle.arbiter.proofs.admit.check_laid.Goals as goal
 

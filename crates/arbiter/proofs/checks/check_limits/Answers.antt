@@ -1,5 +1,5 @@
 -- `arbiter::checks::check_limits` meets its contract. D and N are words, held to their bounds. Assumes nothing.
-use mathlib.Core.Path.{◌≡◌, ap, ap₂, ◌∙◌}
+use Rattle.std.proofs.Common.{◌≡◌, ap, ap₂, ◌∙◌}
 use Rattle.terms.specs.Limits.{max_places}
 use Rattle.terms.specs.Refusals.{then}
 use Rattle.terms.specs.Table.{denominator_bounds, count_bounds, held_to, bounds_of}

@@ -1,7 +1,6 @@
 -- `arbiter::checks::check_offered` meets its contract. D and N first, since the rest reads as many rows as N says; then the tail and
 -- the rows; the rates are added up where all of these found nothing, so that their sum fits. Assumes nothing.
-use mathlib.Core.Path.{◌≡◌, ap, ap₂, sym, ◌∙◌}
-use native.Mathlib.Omega.{arith}
+use Rattle.std.proofs.Common.{◌≡◌, ap, ap₂, sym, ◌∙◌, arith}
 use Rattle.terms.specs.Limits.{max_places}
 use Rattle.terms.specs.Refusals.{verdict_of, faultless, then}
 use Rattle.terms.specs.Table.{tail_verdict}

@@ -1,6 +1,4 @@
-use mathlib.Core.Path.{sym, ap, ap₂, ◌∙◌}
-use Prim.Native.Nat.{◌+◌}
-use native.Mathlib.Omega.{arith}
+use Rattle.std.proofs.Common.{sym, ap, ap₂, ◌∙◌, ◌+◌, arith}
 use Rattle.terms.specs.Limits.{max_places}
 use Rattle.terms.specs.Table.{offered_row_verdict}
 use Rattle.terms.specs.State.{is_faultless}

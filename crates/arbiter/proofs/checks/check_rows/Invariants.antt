@@ -1,6 +1,6 @@
 -- `arbiter::checks::check_rows` meets its contract. The loop's invariant: the check from place p on finds what the whole of it finds.
 -- Assumes nothing.
-use Prim.Native.Nat.{◌-◌, ◌≤◌}
+use Rattle.std.proofs.Common.{◌-◌, ◌≤◌}
 use Rattle.terms.specs.Table.{offered_row_verdict}
 use Rattle.admission.specs.Checked.{table_in}
 use Rattle.admission.proofs.Walks.{Walked}

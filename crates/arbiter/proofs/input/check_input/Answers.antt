@@ -1,6 +1,6 @@
 -- `arbiter::input::check_input` meets its contract. One gate. Assumes nothing.
-use mathlib.Core.Path.{sym}
-use borrow.Author.Tests.{lt-leb, le-leb}
+use Rattle.std.proofs.Common.{sym, le-leb}
+use borrow.Author.Tests.{lt-leb}
 use Rattle.terms.specs.Limits.{max_input}
 use Rattle.terms.specs.Input.{input_verdict}
 use Rattle.terms.proofs.Checks.{gate_passed, gate_failed}

@@ -1,6 +1,6 @@
 -- `arbiter::rows::check_fields` meets its contract. Four numbers held to their bounds, joined in the order of the definition. Assumes
 -- nothing.
-use mathlib.Core.Path.{◌∙◌}
+use Rattle.std.proofs.Common.{◌∙◌}
 use Rattle.terms.specs.Table.{fields_verdict}
 use Rattle.terms.proofs.Checks.{held_by}
 use Rattle.arbiter.proofs.rows.check_fields.Goals as goal

@@ -1,4 +1,4 @@
-use mathlib.Core.Path.{sym, ◌∙◌}
+use Rattle.std.proofs.Common.{sym, ◌∙◌}
 use Rattle.terms.specs.Table.{rate_bounds, burst_bounds, need_bounds, within_bounds}
 use Rattle.terms.proofs.AsTests.{admitted, row_test}
 use Rattle.arbiter.proofs.rows.fields_hold.Goals as goal

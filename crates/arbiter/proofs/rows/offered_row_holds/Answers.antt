@@ -1,7 +1,5 @@
 -- `arbiter::rows::offered_row_holds` meets its contract. The row's own checks, and where they pass 17. Assumes nothing.
-use mathlib.Core.Path.{ap, sym, ◌∙◌}
-use mathlib.Core.Bool.{◌&&◌}
-use native.Mathlib.Omega.{arith}
+use Rattle.std.proofs.Common.{ap, sym, ◌∙◌, ◌&&◌, arith}
 use Rattle.terms.specs.Table.{need_fits}
 use Rattle.terms.proofs.Checks.{row_open}
 use Rattle.terms.proofs.Sound.{is_faultless_true}

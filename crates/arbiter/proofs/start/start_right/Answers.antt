@@ -1,5 +1,6 @@
 -- `arbiter::start::start_right` meets its contract. Admission, then 12; an accepted start opens every account. Assumes nothing.
-use borrow.Author.Tests.{le-leb, lt-leb}
+use Rattle.std.proofs.Common.{le-leb}
+use borrow.Author.Tests.{lt-leb}
 use Rattle.terms.specs.Limits.{max_slot}
 use Rattle.terms.specs.Refusals.{gate, then}
 use Rattle.terms.specs.Start.{start_verdict, start}

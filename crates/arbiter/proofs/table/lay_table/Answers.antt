@@ -1,7 +1,4 @@
-use mathlib.Core.Path.{refl, ap, ◌∙◌}
-use mathlib.Core.List.{List}
-use Prim.Native.Nat.{ℕ}
-use lib.ListN.{replicate}
+use Rattle.std.proofs.Common.{refl, ap, ◌∙◌, List, ℕ, replicate}
 use Rattle.terms.specs.Limits.{max_places}
 use Rattle.layout.specs.Words.{word_count, with_table}
 use Rattle.layout.proofs.Laid.{laying_none, laying_more, laying_end, head_frame}

@@ -1,5 +1,5 @@
 -- `arbiter::table::lay_table` meets its contract. The loop's invariant: D and N are laid, and so are the first p rows. Assumes nothing.
-use Prim.Native.Nat.{◌-◌}
+use Rattle.std.proofs.Common.{◌-◌}
 use Rattle.terms.specs.Limits.{max_places}
 use Rattle.layout.proofs.Laid.{Laying}
 use Rattle.arbiter.proofs.table.lay_table.Given as goal

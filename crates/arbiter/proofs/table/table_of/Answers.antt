@@ -1,5 +1,4 @@
-use mathlib.Core.Path.{sym, ◌∙◌}
-use native.Mathlib.Omega.{arith}
+use Rattle.std.proofs.Common.{sym, ◌∙◌, arith}
 use Rattle.lists.specs.Places.{places_from}
 use Rattle.lists.proofs.Overwriting.{overwrite_more, overwrite_all}
 use Rattle.terms.specs.Limits.{max_places}

@@ -1,8 +1,5 @@
 -- `arbiter::table::table_of` meets its contract. The loop's invariant: the first p rows are those of the words. Assumes nothing.
-use mathlib.Core.Path.{◌≡◌}
-use mathlib.Core.List.{◌++◌}
-use Prim.Native.Nat.{◌-◌}
-use lib.ListN.{length, take, drop}
+use Rattle.std.proofs.Common.{◌≡◌, ◌++◌, ◌-◌, length, take, drop}
 use Rattle.lists.specs.Places.{places_from}
 use Rattle.terms.specs.Limits.{max_places}
 use Rattle.layout.specs.Words.{row_in}

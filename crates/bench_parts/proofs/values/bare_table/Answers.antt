@@ -1,6 +1,5 @@
 -- `bench_parts::values::bare_table` meets its contract. Every row is the one of zeros. Assumes nothing.
-use mathlib.Core.Path.{ap}
-use lib.ListN.{replicate}
+use Rattle.std.proofs.Common.{ap, replicate}
 use Rattle.lists.specs.Overwriting.{written_over}
 use Rattle.terms.specs.Limits.{max_places}
 use Rattle.terms.specs.Table.{Table, table_of}

@@ -1,6 +1,5 @@
 -- `bench_parts::values::one_place` meets its contract. One row is stored. Assumes nothing.
-use mathlib.Core.Path.{ap}
-use lib.ListN.{set}
+use Rattle.std.proofs.Common.{ap, set}
 use Rattle.lists.specs.Overwriting.{written_over}
 use Rattle.terms.specs.Table.{Table, table_of}
 use Rattle.bench_parts.proofs.values.one_place.Goals as goal

@@ -1,10 +1,5 @@
 -- Proves `values::t_with`: each store is the state with that one thing changed. Assumes nothing.
-use mathlib.Core.Path.{◌≡◌, ap, sym, ◌∙◌}
-use mathlib.Core.List.{List}
-use Prim.Native.Nat.{ℕ}
-use native.Mathlib.Omega.{arith}
-use borrow.Author.Rules.{rules}
-use lib.ListN.{length}
+use Rattle.std.proofs.Common.{◌≡◌, ap, sym, ◌∙◌, List, ℕ, arith, rules, length}
 use Rattle.terms.specs.declared.place.Account.{Account}
 use Rattle.terms.specs.Limits.{max_places}
 use Rattle.terms.specs.State.{State}
@@ -13,7 +8,6 @@ use Rattle.terms.specs.Start.{no_state}
 use Rattle.layout.specs.Words.{word_count, words_state, state_of, put_account, put_slot_number, with_account, with_slot, with_table}
 use Rattle.layout.proofs.Stores.{put_account_lem, put_length, put_slot, put_slot_length}
 use Rattle.arbiter.proofs.ByValue.{room_full}
-use Rattle.std.proofs.Common.{rules}
 use Rattle.bench_parts.proofs.values.t_with.Goals as goal
 
 -- a slot number and the accounts of places 0 and 1, stored in words that are some state's

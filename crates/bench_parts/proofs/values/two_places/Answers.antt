@@ -1,6 +1,5 @@
 -- `bench_parts::values::two_places` meets its contract. Two rows are stored. Assumes nothing.
-use mathlib.Core.Path.{ap}
-use lib.ListN.{set}
+use Rattle.std.proofs.Common.{ap, set}
 use Rattle.lists.specs.Overwriting.{written_over}
 use Rattle.terms.specs.Table.{Table, table_of}
 use Rattle.bench_parts.proofs.values.two_places.Goals as goal

@@ -1,13 +1,10 @@
 -- `calls::admit::admit_table` meets its contract. The table is laid into words, and the checks know words only. Assumes nothing.
-use mathlib.Core.Path.{◌≡◌, ap, ap₂, ◌∙◌}
-use lib.ListN.{length}
+use Rattle.std.proofs.Common.{◌≡◌, ap, ap₂, ◌∙◌, length, rules}
 use Rattle.terms.specs.Limits.{max_places}
 use Rattle.terms.specs.Figures.{admission_verdict}
 use Rattle.terms.proofs.Checks.{gate_passed}
 use Rattle.layout.specs.Words.{word_count}
 use Rattle.arbiter.proofs.ByValue.{room_full, right_full}
-use borrow.Author.Rules.{rules}
-use Rattle.std.proofs.Common.{rules}
 use Rattle.calls.proofs.admit.admit_table.Goals as goal
 
 pub returns : goal.returns

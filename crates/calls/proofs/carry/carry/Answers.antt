@@ -1,18 +1,12 @@
 -- `calls::carry::carry` meets its contract: an old state by value has the old limit's room, and the words are as long as an arbiter's.
 -- Assumes nothing.
-use mathlib.Core.Path.{◌≡◌, refl, ap₂, ◌∙◌}
-use mathlib.Core.List.{List}
-use Prim.Native.Nat.{ℕ}
-use native.Mathlib.Omega.{arith}
-use lib.ListN.{length, replicate}
+use Rattle.std.proofs.Common.{◌≡◌, refl, ap₂, ◌∙◌, List, ℕ, arith, length, replicate, rules}
 use Rattle.terms.specs.Limits.{max_places, old_places}
 use Rattle.carrying.specs.Carry.{carry}
 use Rattle.layout.specs.Words.{word_count}
 use Rattle.arbiter.proofs.ByValue.{room_full, right_full}
 use Rattle.carrying.specs.OldWords.{old_word_count, old_state_of}
 use Rattle.carrying.proofs.Fits.{old_room_is, fitting}
-use borrow.Author.Rules.{rules}
-use Rattle.std.proofs.Common.{rules}
 use Rattle.calls.proofs.carry.carry.Goals as goal
 
 pub carry_words-answer-requires : goal.carry_words-answer-requires

@@ -1,6 +1,6 @@
 -- `calls::look::account` meets its contract. The room of its words is the largest N. Assumes nothing.
 use Rattle.queries.specs.Look.{account_query}
-use mathlib.Core.Path.{◌∙◌}
+use Rattle.std.proofs.Common.{◌∙◌}
 use Rattle.arbiter.proofs.ByValue.{right_full, query_held}
 use Rattle.arbiter.proofs.Shapes.{words_full}
 use Rattle.calls.proofs.look.account.Goals as goal

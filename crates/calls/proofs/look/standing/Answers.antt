@@ -1,6 +1,6 @@
 -- `calls::look::standing` meets its contract. The room of its words is the largest N. Assumes nothing.
 use Rattle.queries.specs.Look.{standing}
-use mathlib.Core.Path.{◌∙◌}
+use Rattle.std.proofs.Common.{◌∙◌}
 use Rattle.arbiter.proofs.ByValue.{right_full, query_held}
 use Rattle.arbiter.proofs.Shapes.{words_full}
 use Rattle.calls.proofs.look.standing.Goals as goal

@@ -1,8 +1,5 @@
 -- `calls::read::read_table` meets its contract. A start at slot 0 reads what a reading does. Assumes nothing.
-use mathlib.Core.Path.{refl, ap, ap₂, ◌∙◌}
-use mathlib.Core.List.{List}
-use Prim.Native.Nat.{ℕ}
-use lib.ListN.{replicate}
+use Rattle.std.proofs.Common.{refl, ap, ap₂, ◌∙◌, List, ℕ, replicate}
 use Rattle.terms.specs.Limits.{max_places}
 use Rattle.layout.specs.Words.{word_count}
 use Rattle.arbiter.proofs.ByValue.{room_full, right_full}

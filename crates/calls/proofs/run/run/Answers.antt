@@ -1,5 +1,5 @@
 -- `calls::run::run` meets its contract. The room of its words is the largest N. Assumes nothing.
-use mathlib.Core.Path.{◌∙◌}
+use Rattle.std.proofs.Common.{◌∙◌}
 use Rattle.rule.specs.Log.{run}
 use Rattle.arbiter.proofs.ByValue.{right_full, query_held}
 use Rattle.arbiter.proofs.Shapes.{words_full}

@@ -1,6 +1,6 @@
 -- `calls::slot::slot` meets its contract. The room of its words is the largest N. Assumes nothing.
 use Rattle.rule.specs.Calls.{slot, called}
-use mathlib.Core.Path.{◌∙◌}
+use Rattle.std.proofs.Common.{◌∙◌}
 use Rattle.arbiter.proofs.ByValue.{right_full, query_held}
 use Rattle.arbiter.proofs.Shapes.{words_full}
 use Rattle.calls.proofs.slot.slot.Goals as goal

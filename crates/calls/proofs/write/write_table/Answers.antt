@@ -1,12 +1,9 @@
 -- `calls::write::write_table` meets its contract. The table is laid into words, admitted, and written from them. Assumes nothing.
-use mathlib.Core.Path.{◌≡◌, ap, ap₂, ◌∙◌}
-use lib.ListN.{length}
+use Rattle.std.proofs.Common.{◌≡◌, ap, ap₂, ◌∙◌, length, rules}
 use Rattle.terms.specs.Limits.{max_places}
 use Rattle.layout.specs.Words.{word_count}
 use Rattle.table_bytes.specs.Writing.{write_table}
 use Rattle.arbiter.proofs.ByValue.{room_full, right_full}
-use borrow.Author.Rules.{rules}
-use Rattle.std.proofs.Common.{rules}
 use Rattle.calls.proofs.write.write_table.Goals as goal
 
 pub admit_and_write-requires : goal.admit_and_write-requires

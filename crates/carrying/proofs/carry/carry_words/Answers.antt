@@ -1,7 +1,6 @@
 -- `carrying::carry::carry_words` meets its contract: test 23 on the words that the old state was laid into is that of the old state.
 -- Assumes nothing.
-use mathlib.Core.Path.{sym, ◌∙◌}
-use native.Mathlib.Omega.{arith}
+use Rattle.std.proofs.Common.{sym, ◌∙◌, arith}
 use Rattle.terms.specs.Limits.{max_places, old_places}
 use Rattle.layout.proofs.Stores.{right_stands}
 use Rattle.carrying.proofs.Fits.{Fit, fit}

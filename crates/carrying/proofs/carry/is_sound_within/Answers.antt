@@ -1,5 +1,5 @@
-use native.Mathlib.Omega.{arith}
-use borrow.Author.Tests.{le-leb, lt-leb}
+use Rattle.std.proofs.Common.{arith, le-leb}
+use borrow.Author.Tests.{lt-leb}
 use Rattle.terms.specs.Limits.{max_places}
 use Rattle.layout.specs.Words.{words_state, state_of}
 use Rattle.layout.proofs.RoundTrip.{right}

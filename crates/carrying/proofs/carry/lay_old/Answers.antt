@@ -1,6 +1,4 @@
-use Prim.Native.Nat.{◌<◌}
-use mathlib.Core.Path.{ap, ◌∙◌}
-use native.Mathlib.Omega.{arith}
+use Rattle.std.proofs.Common.{◌<◌, ap, ◌∙◌, arith}
 use Rattle.terms.specs.Limits.{max_places, old_places}
 use Rattle.layout.proofs.RoundTrip.{right}
 use Rattle.carrying.specs.OldWords.{old_room_of}

@@ -1,6 +1,6 @@
 -- `carrying::carry::lay_old` meets its contract. The loop's invariant: D, N, the slot number and the first p places are the old state's, and
 -- all else is 0. Assumes nothing.
-use Prim.Native.Nat.{◌-◌, ◌≤◌}
+use Rattle.std.proofs.Common.{◌-◌, ◌≤◌}
 use Rattle.layout.specs.Words.{room_of_words}
 use Rattle.carrying.specs.OldWords.{old_room_of, old_state_of}
 use Rattle.carrying.proofs.Laid.{Carrying}

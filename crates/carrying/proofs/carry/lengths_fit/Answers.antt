@@ -1,5 +1,4 @@
-use mathlib.Core.Path.{sym, ◌∙◌}
-use native.Mathlib.Omega.{arith}
+use Rattle.std.proofs.Common.{sym, ◌∙◌, arith}
 use Rattle.terms.specs.Limits.{max_places, old_places}
 use Rattle.layout.proofs.RoundTrip.{right}
 use Rattle.carrying.specs.Fits.{fits_into}

@@ -1,6 +1,5 @@
-use native.Mathlib.Omega.{arith}
-use borrow.Author.Tests.{le-leb, lt-leb, eq-eqb, ne_eqb}
-use lib.ListN.{length}
+use Rattle.std.proofs.Common.{arith, le-leb, eq-eqb, ne_eqb, length}
+use borrow.Author.Tests.{lt-leb}
 use Rattle.carrying.specs.OldWords.{old_word_count, old_room_of, old_right_length}
 use Rattle.carrying.proofs.old_words.old_length_is_right.Goals as goal
 

@@ -1,4 +1,4 @@
-use mathlib.Core.Path.{refl}
+use Rattle.std.proofs.Common.{refl}
 use Rattle.carrying.specs.OldWords.{old_room_of}
 use Rattle.carrying.proofs.old_words.old_room_of.Goals as goal
 

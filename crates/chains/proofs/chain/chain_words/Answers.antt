@@ -1,6 +1,6 @@
 -- `chains::chain::chain_words` meets its contract. Past test 23 the table has passed checks 1 to 6, so that its finish figures can be worked
 -- out; past 11 each link is one of its places. Assumes nothing.
-use mathlib.Core.Path.{◌≡◌, sym, ap, ◌∙◌}
+use Rattle.std.proofs.Common.{◌≡◌, sym, ap, ◌∙◌}
 use Rattle.terms.specs.Limits.{max_places}
 use Rattle.terms.specs.Refusals.{verdict_of, faultless}
 use Rattle.terms.specs.State.{place_verdict}

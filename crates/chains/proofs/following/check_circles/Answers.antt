@@ -1,8 +1,4 @@
-use mathlib.Core.Path.{◌≡◌, sym, ap, ◌∙◌}
-use mathlib.Core.Bool.{not}
-use Prim.Native.Nat.{◌<◌}
-use native.Mathlib.Omega.{arith}
-use lib.Dec.{eqb}
+use Rattle.std.proofs.Common.{◌≡◌, sym, ap, ◌∙◌, not, ◌<◌, arith, eqb}
 use Rattle.lists.specs.Sums.{every}
 use Rattle.terms.specs.Limits.{max_places}
 use Rattle.terms.specs.Refusals.{refusal_at}

@@ -1,6 +1,6 @@
 -- `chains::following::check_circles` meets its contract. The loop's invariant, `Scanned`: check 16 from place p on finds what the whole of it
 -- finds. Assumes nothing.
-use Prim.Native.Nat.{◌-◌}
+use Rattle.std.proofs.Common.{◌-◌}
 use Rattle.terms.specs.Chain.{circle_verdict}
 use Rattle.admission.specs.Checked.{table_in}
 use Rattle.chains.proofs.Tables.{Scanned}

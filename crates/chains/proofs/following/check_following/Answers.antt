@@ -1,5 +1,5 @@
 -- `chains::following::check_following` meets its contract. Assumes nothing.
-use mathlib.Core.Path.{ap, sym, ◌∙◌}
+use Rattle.std.proofs.Common.{ap, sym, ◌∙◌}
 use Rattle.terms.specs.Refusals.{verdict_of}
 use Rattle.terms.specs.Chain.{names_verdict, circles_verdict, following_verdict}
 use Rattle.admission.specs.Checked.{table_in}

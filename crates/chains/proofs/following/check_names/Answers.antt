@@ -1,6 +1,4 @@
-use mathlib.Core.Path.{◌≡◌, sym, ap, ◌∙◌}
-use Prim.Native.Nat.{◌<◌}
-use native.Mathlib.Omega.{arith}
+use Rattle.std.proofs.Common.{◌≡◌, sym, ap, ◌∙◌, ◌<◌, arith}
 use Rattle.terms.specs.Limits.{max_places}
 use Rattle.terms.specs.Refusals.{refusal}
 use Rattle.terms.specs.Chain.{follows, present}

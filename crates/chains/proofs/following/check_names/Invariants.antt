@@ -1,6 +1,6 @@
 -- `chains::following::check_names` meets its contract. The loop's invariant, `Scanned`: check 11 of the names from place p on finds what the
 -- whole of it finds. Assumes nothing.
-use Prim.Native.Nat.{◌-◌}
+use Rattle.std.proofs.Common.{◌-◌}
 use Rattle.terms.specs.Chain.{name_verdict}
 use Rattle.admission.specs.Checked.{table_in}
 use Rattle.chains.proofs.Tables.{Scanned}

@@ -1,5 +1,5 @@
 -- `chains::following::is_present` meets its contract. Assumes nothing.
-use mathlib.Core.Path.{sym, ap}
+use Rattle.std.proofs.Common.{sym, ap}
 use Rattle.terms.specs.Chain.{present}
 use Rattle.chains.proofs.Names.{named_nobody, named_place}
 use Rattle.chains.proofs.following.is_present.Goals as goal

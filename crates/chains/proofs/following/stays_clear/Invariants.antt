@@ -1,6 +1,6 @@
 -- `chains::following::stays_clear` meets its contract. The loop's invariant, `Clear`: what is left to test comes to the same as all of it.
 -- Assumes nothing.
-use Prim.Native.Nat.{◌-◌}
+use Rattle.std.proofs.Common.{◌-◌}
 use Rattle.chains.proofs.Walks.{Clear}
 use Rattle.chains.proofs.following.stays_clear.Given as goal
 

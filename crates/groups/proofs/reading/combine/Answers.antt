@@ -1,9 +1,7 @@
 -- `groups::reading::combine` meets its contract. The number above is at most 33,554,431 exactly when the whole is at most 4,294,967,295.
 -- Assumes nothing.
-use Prim.Native.Nat.{◌+◌, ◌-◌, ◌*◌}
-use native.Mathlib.Omega.{arith}
-use native.Mathlib.Numerals.{add-one}
-use borrow.Author.Tests.{lt-leb, le-leb}
+use Rattle.std.proofs.Common.{◌+◌, ◌-◌, ◌*◌, arith, add-one, le-leb}
+use borrow.Author.Tests.{lt-leb}
 use Rattle.groups.specs.Groups.{max_number, combined}
 use Rattle.groups.proofs.reading.combine.Goals as goal
 

@@ -1,5 +1,5 @@
 -- `groups::reading::last_group` meets its contract. One comparison. Assumes nothing.
-use borrow.Author.Tests.{eq-eqb, ne_eqb}
+use Rattle.std.proofs.Common.{eq-eqb, ne_eqb}
 use Rattle.groups.specs.Groups.{last_group}
 use Rattle.groups.proofs.reading.last_group.Goals as goal
 

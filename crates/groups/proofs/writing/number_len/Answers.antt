@@ -1,4 +1,4 @@
-use native.Mathlib.Omega.{arith}
+use Rattle.std.proofs.Common.{arith}
 use Rattle.groups.proofs.Writings.{counted_whole, counted_next, counted_all}
 use Rattle.groups.proofs.writing.number_len.Goals as goal
 

@@ -1,4 +1,4 @@
-use native.Mathlib.Omega.{arith}
+use Rattle.std.proofs.Common.{arith}
 use Rattle.groups.proofs.Writings.{counted_all, put_none, put_inside, put_next, put_last}
 use Rattle.groups.proofs.writing.put_groups.Goals as goal
 

@@ -1,7 +1,5 @@
 -- `groups::writing::write_number` meets its contract. The room is asked for first; then the groups are put. Assumes nothing.
-use Prim.Native.Nat.{◌≤◌}
-use native.Mathlib.Omega.{arith}
-use lib.ListN.{length}
+use Rattle.std.proofs.Common.{◌≤◌, arith, length}
 use Rattle.groups.specs.Groups.{number_bytes}
 use Rattle.groups.proofs.Writings.{written_short, written_whole}
 use Rattle.groups.proofs.writing.write_number.Goals as goal

@@ -1,6 +1,6 @@
 -- `justrave::orders::justrave_order` meets its contract. The length of the answer, and then what the ordering of the bytes comes to. Assumes
 -- nothing.
-use mathlib.Core.Path.{ap, sym, ◌∙◌}
+use Rattle.std.proofs.Common.{ap, sym, ◌∙◌}
 use Rattle.terms.specs.Limits.{max_places}
 use Rattle.table_bytes.specs.Writing.{write_answer_of}
 use Rattle.outcomes.proofs.Places.{orders_name_below}

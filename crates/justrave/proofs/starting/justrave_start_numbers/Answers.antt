@@ -1,7 +1,6 @@
-use mathlib.Core.Path.{ap, sym, ◌∙◌}
+use Rattle.std.proofs.Common.{ap, sym, ◌∙◌, arith}
 use Rattle.terms.specs.Limits.{max_places}
 use Rattle.justrave.proofs.Lengths.{lent_right, lent_room}
-use native.Mathlib.Omega.{arith}
 use Rattle.terms.specs.Answers.{start_answer_of}
 use Rattle.layout.proofs.RoundTrip.{right}
 use Rattle.outcomes.specs.Outcomes.{answer_code}

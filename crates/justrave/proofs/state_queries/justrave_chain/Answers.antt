@@ -1,8 +1,5 @@
 -- `justrave::state_queries::justrave_chain` meets its contract. Assumes nothing.
-use mathlib.Core.Path.{◌≡◌, ap, sym, ◌∙◌}
-use mathlib.Core.Bool.{true}
-use native.Mathlib.Omega.{arith}
-use lib.ListN.{length}
+use Rattle.std.proofs.Common.{◌≡◌, ap, sym, ◌∙◌, true, arith, length}
 use Rattle.terms.specs.Limits.{max_places}
 use Rattle.terms.specs.Chain.{chain_answer_of}
 use Rattle.layout.specs.Words.{room_of_words, right_length}

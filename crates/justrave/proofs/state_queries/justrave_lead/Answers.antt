@@ -1,12 +1,8 @@
-use mathlib.Core.Path.{ap, sym, ◌∙◌}
+use Rattle.std.proofs.Common.{ap, sym, ◌∙◌, to_z-of_z, set, rules, w64}
 use Rattle.terms.specs.Limits.{max_places}
-use mir.Facts.{to_z-of_z}
-use lib.ListN.{set}
 use Rattle.lead_parts.specs.Lead.{lead_answer_of}
 use Rattle.justrave.specs.Exported.{lead_output}
 use Rattle.justrave.proofs.Queries.{one_put, beside, lead_shut, lead_output_lem, lead_given, lead_below}
-use borrow.Author.Rules.{rules}
-use Rattle.std.proofs.Common.{rules, w64}
 use Rattle.justrave.proofs.state_queries.justrave_lead.Goals as goal
 
 pub returns-then-not-lengths_hold : goal.returns-then-not-lengths_hold

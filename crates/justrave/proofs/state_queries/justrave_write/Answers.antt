@@ -1,4 +1,4 @@
-use mathlib.Core.Path.{ap, sym, ◌∙◌}
+use Rattle.std.proofs.Common.{ap, sym, ◌∙◌}
 use Rattle.terms.specs.Limits.{max_places}
 use Rattle.table_bytes.specs.Writing.{write_answer_of}
 use Rattle.justrave.specs.Exported.{write_words, write_code}

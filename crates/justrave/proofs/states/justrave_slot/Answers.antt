@@ -1,5 +1,4 @@
-use mathlib.Core.Path.{ap, sym, ◌∙◌}
-use native.Mathlib.Omega.{arith}
+use Rattle.std.proofs.Common.{ap, sym, ◌∙◌, arith}
 use Rattle.terms.specs.Limits.{max_places}
 use Rattle.terms.specs.Answers.{slot_answer_of}
 use Rattle.outcomes.specs.Outcomes.{answer_code}

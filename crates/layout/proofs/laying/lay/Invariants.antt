@@ -1,6 +1,6 @@
 -- `layout::laying::lay` meets its contract. The loop's invariant: D and N are laid, and so are the first p of the numbers' rows.
 -- Assumes nothing.
-use Prim.Native.Nat.{◌-◌}
+use Rattle.std.proofs.Common.{◌-◌}
 use Rattle.layout.proofs.Laid.{Laying, rows_given}
 use Rattle.layout.proofs.laying.lay.Given as goal
 

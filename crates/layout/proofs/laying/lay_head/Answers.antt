@@ -1,5 +1,5 @@
 -- `layout::laying::lay_head` meets its contract. Words that are all 0, then D and N. Assumes nothing.
-use native.Mathlib.Omega.{arith}
+use Rattle.std.proofs.Common.{arith}
 use Rattle.terms.specs.Limits.{max_places}
 use Rattle.layout.proofs.RoundTrip.{right}
 use Rattle.layout.proofs.Laid.{head_laid}

@@ -1,4 +1,4 @@
-use mathlib.Core.Path.{sym, ◌∙◌}
+use Rattle.std.proofs.Common.{sym, ◌∙◌}
 use Rattle.layout.proofs.Stores.{zero_more, all_zero_lem}
 use Rattle.layout.proofs.words.is_clear_from.Goals as goal
 

@@ -1,8 +1,4 @@
-use mathlib.Core.Path.{◌≡◌}
-use mathlib.Core.Bool.{◌&&◌}
-use Prim.Native.Nat.{◌-◌}
-use lib.Dec.{eqb}
-use lib.ListN.{length, drop}
+use Rattle.std.proofs.Common.{◌≡◌, ◌&&◌, ◌-◌, eqb, length, drop}
 use Rattle.lists.specs.Sums.{every}
 use Rattle.layout.specs.Words.{is_zero, place_start}
 use Rattle.layout.proofs.words.is_clear_from.Given as goal

@@ -1,6 +1,5 @@
-use native.Mathlib.Omega.{arith}
-use borrow.Author.Tests.{le-leb, lt-leb, eq-eqb, ne_eqb}
-use lib.ListN.{length}
+use Rattle.std.proofs.Common.{arith, le-leb, eq-eqb, ne_eqb, length}
+use borrow.Author.Tests.{lt-leb}
 use Rattle.layout.specs.Words.{word_count, room_of_words, right_length}
 use Rattle.layout.proofs.words.length_is_right.Goals as goal
 

@@ -1,4 +1,4 @@
-use mathlib.Core.Path.{refl}
+use Rattle.std.proofs.Common.{refl}
 use Rattle.layout.specs.Words.{put_row}
 use Rattle.layout.proofs.words.put_row.Goals as goal
 

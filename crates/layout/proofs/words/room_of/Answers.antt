@@ -1,4 +1,4 @@
-use mathlib.Core.Path.{refl}
+use Rattle.std.proofs.Common.{refl}
 use Rattle.layout.specs.Words.{room_of_words}
 use Rattle.layout.proofs.words.room_of.Goals as goal
 

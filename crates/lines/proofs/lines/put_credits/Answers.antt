@@ -1,7 +1,4 @@
-use mathlib.Core.Path.{◌≡◌, ap, sym, ◌∙◌}
-use Prim.Native.Nat.{◌+◌, ◌≤◌, ◌<◌}
-use native.Mathlib.Omega.{arith}
-use lib.ListN.{length}
+use Rattle.std.proofs.Common.{◌≡◌, ap, sym, ◌∙◌, ◌+◌, ◌≤◌, ◌<◌, arith, length}
 use Rattle.terms.specs.Limits.{max_places}
 use Rattle.terms.specs.State.{account_at}
 use Rattle.layout.specs.Words.{room_of_words, state_of}

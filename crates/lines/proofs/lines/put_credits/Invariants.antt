@@ -1,5 +1,5 @@
 -- `lines::lines::put_credits` meets its contract. The loop's invariant: the credits of the first p places are put. Assumes nothing.
-use Prim.Native.Nat.{◌-◌, ◌≤◌}
+use Rattle.std.proofs.Common.{◌-◌, ◌≤◌}
 use Rattle.layout.specs.Words.{state_of}
 use Rattle.lists.proofs.Putting.{Put}
 use Rattle.lines.proofs.Writing.{credits_to}

@@ -1,7 +1,6 @@
 -- `lines::lines::put_end` meets its contract. The word and the number of slots. Assumes nothing.
-use borrow.Author.Rules.{rules}
-use Rattle.lines.specs.Lines.{end_line}
 use Rattle.std.proofs.Common.{rules}
+use Rattle.lines.specs.Lines.{end_line}
 use Rattle.lines.proofs.lines.put_end.Goals as goal
 
 pub put_line-requires : goal.put_line-requires

@@ -1,9 +1,8 @@
 -- `lines::lines::put_header` meets its contract. The bytes are the header's. Assumes nothing.
-use borrow.Author.Rules.{rules}
+use Rattle.std.proofs.Common.{rules}
 use Rattle.lines.specs.Lines.{header}
 use Rattle.lines.specs.Text.{line, spaced}
 use Rattle.lists.specs.Sums.{joined}
-use Rattle.std.proofs.Common.{rules}
 use Rattle.lines.proofs.lines.put_header.Goals as goal
 
 pub put-requires : goal.put-requires

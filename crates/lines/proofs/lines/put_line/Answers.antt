@@ -1,6 +1,5 @@
 -- `lines::lines::put_line` meets its contract. A word, an item and a line feed. Assumes nothing.
-use native.Mathlib.Omega.{arith}
-use lib.ListN.{length-append}
+use Rattle.std.proofs.Common.{arith, length-append}
 use Rattle.lists.proofs.Putting.{put_first, put_inside, put_room, put_next, put_byte, put_length, put_whole}
 use Rattle.lines.proofs.Writing.{two_length, line_of_two}
 use Rattle.lines.specs.Text.{decimal, spaced}

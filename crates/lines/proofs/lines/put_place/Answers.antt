@@ -1,7 +1,6 @@
 -- `lines::lines::put_place` meets its contract. By the grant. Assumes nothing.
-use borrow.Author.Rules.{rules}
-use Rattle.lines.specs.Text.{spaced}
 use Rattle.std.proofs.Common.{rules}
+use Rattle.lines.specs.Text.{spaced}
 use Rattle.lines.proofs.lines.put_place.Goals as goal
 
 pub put-requires : goal.put-requires

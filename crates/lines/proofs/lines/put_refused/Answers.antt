@@ -1,5 +1,5 @@
 -- `lines::lines::put_refused` meets its contract. The word and the refusal's number. Assumes nothing.
-use mathlib.Core.Path.{ap}
+use Rattle.std.proofs.Common.{ap}
 use Rattle.lists.proofs.Putting.{put_named}
 use Rattle.lines.specs.Lines.{refused_line}
 use Rattle.lines.proofs.lines.put_refused.Goals as goal

@@ -1,7 +1,5 @@
 -- `lines::lines::put_slot` meets its contract. Stamp, place, credits and a line feed, one behind the other. Assumes nothing.
-use mathlib.Core.List.{◌++◌}
-use native.Mathlib.Omega.{arith}
-use lib.ListN.{length-append}
+use Rattle.std.proofs.Common.{◌++◌, arith, length-append}
 use Rattle.lists.proofs.Putting.{put_first, put_inside, put_room, put_next, put_byte, put_length, put_whole}
 use Rattle.lines.proofs.Writing.{slot_room, slot_text}
 use Rattle.lines.specs.Lines.{place_item, credit_items}

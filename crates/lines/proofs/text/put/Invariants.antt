@@ -1,6 +1,5 @@
 -- `lines::text::put` meets its contract. The loop's invariant: the first i bytes of the text stand in the buffer. Assumes nothing.
-use Prim.Native.Nat.{◌-◌}
-use lib.ListN.{length}
+use Rattle.std.proofs.Common.{◌-◌, length}
 use Rattle.lines.proofs.Writing.{Copied}
 use Rattle.lines.proofs.text.put.Given as goal
 

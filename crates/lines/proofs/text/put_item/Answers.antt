@@ -1,5 +1,5 @@
 -- `lines::text::put_item` meets its contract. A space, and the number behind it. Assumes nothing.
-use native.Mathlib.Omega.{arith}
+use Rattle.std.proofs.Common.{arith}
 use Rattle.lists.proofs.Putting.{put_none, put_byte, put_inside, put_room, put_next, put_whole}
 use Rattle.lines.proofs.Writing.{item_length, item_text}
 use Rattle.lines.specs.Text.{decimal}

@@ -1,5 +1,5 @@
 -- `lines::text::put_number` meets its contract. By io's digits. Assumes nothing.
-use native.Mathlib.Omega.{arith}
+use Rattle.std.proofs.Common.{arith}
 use Rattle.lines.proofs.Digits.{decimal_put}
 use Rattle.lists.proofs.Putting.{put_named}
 use Rattle.std.proofs.lemmas.Grind.{common_steps}

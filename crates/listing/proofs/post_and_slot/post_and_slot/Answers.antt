@@ -1,5 +1,5 @@
 -- `listing::post_and_slot::post_and_slot` meets its contract. By what the posts answer. Assumes nothing.
-use mathlib.Core.Path.{ap}
+use Rattle.std.proofs.Common.{ap}
 use Rattle.terms.specs.Answers.{post_answer_of}
 use Rattle.listing.proofs.Posting.{post_and_slot_accepted, post_and_slot_stop}
 use Rattle.listing.proofs.post_and_slot.post_and_slot.Goals as goal

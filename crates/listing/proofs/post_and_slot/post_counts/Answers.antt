@@ -1,4 +1,4 @@
-use mathlib.Core.Path.{ap}
+use Rattle.std.proofs.Common.{ap}
 use Rattle.terms.specs.Answers.{post_answer_of}
 use Rattle.listing.proofs.Posting.{posting_next, posting_stop, posting_end}
 use Rattle.listing.proofs.post_and_slot.post_counts.Goals as goal

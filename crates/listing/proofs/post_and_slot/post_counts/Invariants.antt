@@ -1,6 +1,5 @@
 -- `listing::post_and_slot::post_counts` meets its contract. The loop's invariant: what is left to post comes to the same as all of it. Assumes nothing.
-use Prim.Native.Nat.{◌-◌}
-use lib.ListN.{length}
+use Rattle.std.proofs.Common.{◌-◌, length}
 use Rattle.terms.specs.Limits.{max_places}
 use Rattle.arbiter.specs.ByValue.{held}
 use Rattle.listing.proofs.Posting.{Posting}

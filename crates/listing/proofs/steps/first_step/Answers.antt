@@ -1,8 +1,5 @@
 -- `listing::steps::first_step` meets its contract. The header, and by what the beginning answers. Assumes nothing.
-use mathlib.Core.List.{◌++◌}
-use mathlib.Core.Path.{ap, sym, ◌∙◌}
-use native.Mathlib.Omega.{arith}
-use lib.ListN.{drop}
+use Rattle.std.proofs.Common.{◌++◌, ap, sym, ◌∙◌, arith, drop}
 use Rattle.terms.specs.Limits.{max_places}
 use Rattle.terms.specs.Refusals.{refusal, refusal_of}
 use Rattle.terms.specs.Start.{no_state}

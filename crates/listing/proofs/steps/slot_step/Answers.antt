@@ -1,7 +1,5 @@
 -- `listing::steps::slot_step` meets its contract. By what the reading of the counts answers. Assumes nothing.
-use mathlib.Core.Path.{◌≡◌, ap, sym, ◌∙◌}
-use Prim.Native.Nat.{◌≤◌}
-use lib.Seq.{length-take-le}
+use Rattle.std.proofs.Common.{◌≡◌, ap, sym, ◌∙◌, ◌≤◌, length-take-le}
 use Rattle.terms.specs.Limits.{max_places}
 use Rattle.admission.proofs.Rows.{count_word}
 use Rattle.arbiter.specs.ByValue.{held}

@@ -1,7 +1,5 @@
 -- `listing::steps::step` meets its contract. By its tests. Assumes nothing.
-use mathlib.Core.Path.{◌≡◌, ap, sym, ◌∙◌}
-use native.Mathlib.Omega.{arith}
-use lib.ListN.{length}
+use Rattle.std.proofs.Common.{◌≡◌, ap, sym, ◌∙◌, arith, length}
 use Rattle.terms.specs.Limits.{max_places}
 use Rattle.terms.specs.State.{sound}
 use Rattle.layout.specs.Words.{word_count}

@@ -1,8 +1,5 @@
 -- `listing::steps::tell` meets its contract. By what the slot answered. Assumes nothing.
-use mathlib.Core.Path.{◌≡◌}
-use native.Mathlib.Omega.{arith}
-use borrow.Author.Rules.{rules}
-use lib.ListN.{length, drop}
+use Rattle.std.proofs.Common.{◌≡◌, arith, rules, length, drop}
 use Rattle.terms.specs.Limits.{max_places}
 use Rattle.layout.specs.Words.{word_count}
 use Rattle.arbiter.specs.ByValue.{held}
@@ -11,7 +8,6 @@ use Rattle.listing.proofs.Telling.{counted, slot_fits, written_out_text, wrote_i
 use Rattle.lines.specs.Lines.{slot_line}
 use Rattle.listing.specs.Listing.{more, slot_output}
 use Rattle.std.proofs.lemmas.Grind.{common_steps}
-use Rattle.std.proofs.Common.{rules}
 use Rattle.listing.proofs.steps.tell.Goals as goal
 
 pub put_slot-requires : goal.put_slot-requires

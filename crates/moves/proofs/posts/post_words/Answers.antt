@@ -1,5 +1,4 @@
-use mathlib.Core.Path.{sym, ap, ◌∙◌}
-use native.Mathlib.Omega.{arith}
+use Rattle.std.proofs.Common.{sym, ap, ◌∙◌, arith}
 use Rattle.terms.specs.State.{backlog}
 use Rattle.rule.specs.Calls.{with_count}
 use Rattle.moves.proofs.Readiness.{head_there, place_there, the_count}

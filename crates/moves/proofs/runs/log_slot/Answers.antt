@@ -1,4 +1,4 @@
-use mathlib.Core.Path.{ap, ◌∙◌}
+use Rattle.std.proofs.Common.{ap, ◌∙◌}
 use Rattle.rule.specs.Log.{grant_byte}
 use Rattle.rule.proofs.Logs.{first_byte}
 use Rattle.moves.proofs.Going.{grant_fits}

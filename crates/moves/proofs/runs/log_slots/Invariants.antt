@@ -1,5 +1,4 @@
-use Prim.Native.Nat.{◌-◌}
-use lib.ListN.{length}
+use Rattle.std.proofs.Common.{◌-◌, length}
 use Rattle.moves.proofs.Going.{Going}
 use Rattle.moves.proofs.runs.log_slots.Given as goal
 

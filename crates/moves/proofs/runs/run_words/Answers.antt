@@ -1,5 +1,4 @@
-use mathlib.Core.Path.{refl, sym, ap, ◌∙◌}
-use native.Mathlib.Omega.{arith}
+use Rattle.std.proofs.Common.{refl, sym, ap, ◌∙◌, arith}
 use Rattle.layout.specs.Words.{room_of_words, state_of}
 use Rattle.rule.proofs.Logs.{run_unsound, run_refused, run_done}
 use Rattle.moves.proofs.Readiness.{head_there, held, the_denominator, the_count, the_slot}

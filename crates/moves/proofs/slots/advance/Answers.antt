@@ -1,5 +1,4 @@
-use mathlib.Core.Path.{sym, ap, ◌∙◌}
-use native.Mathlib.Omega.{arith}
+use Rattle.std.proofs.Common.{sym, ap, ◌∙◌, arith}
 use Rattle.layout.specs.Words.{state_of}
 use Rattle.moves.proofs.Readiness.{head_there, held, ready_roomy, ready_grant, slot_done, the_slot}
 use Rattle.moves.proofs.slots.advance.Goals as goal

@@ -1,5 +1,4 @@
-use mathlib.Core.Path.{sym, ap, ◌∙◌}
-use native.Mathlib.Omega.{arith}
+use Rattle.std.proofs.Common.{sym, ap, ◌∙◌, arith}
 use Rattle.moves.proofs.Readiness.{head_there, the_denominator, the_count, the_slot}
 use Rattle.moves.proofs.Going.{slot_23, slot_22, slot_idle, slot_granted}
 use Rattle.moves.proofs.slots.slot_words.Goals as goal

@@ -1,6 +1,5 @@
 -- `ordering::order::order` meets its contract. The table is laid into words, put in order there, and handed back from them. Assumes nothing.
-use mathlib.Core.Path.{◌≡◌, ap, ap₂, ◌∙◌}
-use lib.ListN.{length}
+use Rattle.std.proofs.Common.{◌≡◌, ap, ap₂, ◌∙◌, length, rules}
 use Rattle.terms.specs.Limits.{max_places}
 use Rattle.terms.specs.Table.{Table}
 use Rattle.terms.specs.Answers.{order_answer_of}
@@ -11,8 +10,6 @@ use Rattle.arbiter.proofs.ByValue.{room_full, right_full}
 use Rattle.ordering.specs.Order.{order}
 use Rattle.ordering.specs.InPlace.{in_state, table_only}
 use Rattle.ordering.proofs.Claims.{in_state_lem}
-use borrow.Author.Rules.{rules}
-use Rattle.std.proofs.Common.{rules}
 use Rattle.ordering.proofs.order.order.Goals as goal
 
 pub order_right-answer-requires : goal.order_right-answer-requires

@@ -1,5 +1,5 @@
 -- `ordering::order::order_right` meets its contract. Checks 1 to 6 and 17, and then the search. Assumes nothing.
-use mathlib.Core.Path.{ap, sym, ◌∙◌}
+use Rattle.std.proofs.Common.{ap, sym, ◌∙◌}
 use Rattle.terms.specs.Refusals.{verdict_of}
 use Rattle.terms.proofs.Checks.{gate_passed}
 use Rattle.ordering.specs.Order.{order}

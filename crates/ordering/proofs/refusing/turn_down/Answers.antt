@@ -1,5 +1,5 @@
 -- `ordering::refusing::turn_down` meets its contract. Words that are all 0 are the state that is all 0. Assumes nothing.
-use mathlib.Core.Path.{ap}
+use Rattle.std.proofs.Common.{ap}
 use Rattle.terms.specs.Refusals.{refusal_of}
 use Rattle.terms.specs.Answers.{refused}
 use Rattle.terms.specs.State.{State}

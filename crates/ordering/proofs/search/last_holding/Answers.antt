@@ -1,6 +1,4 @@
-use mathlib.Core.Path.{◌≡◌, sym, ◌∙◌}
-use Prim.Native.Nat.{suc, ◌-◌, ◌<◌}
-use native.Mathlib.Omega.{arith}
+use Rattle.std.proofs.Common.{◌≡◌, sym, ◌∙◌, suc, ◌-◌, ◌<◌, arith}
 use Rattle.ordering.specs.Order.{last_holding}
 use Rattle.ordering.proofs.InPlace.{holding_pass, holding_stop}
 use Rattle.ordering.proofs.search.last_holding.Goals as goal

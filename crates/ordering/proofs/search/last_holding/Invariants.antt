@@ -1,7 +1,5 @@
 -- `ordering::search::last_holding` meets its contract. The loop's invariant: none of those from i on holds. Assumes nothing.
-use mathlib.Core.Path.{◌≡◌}
-use Prim.Native.Nat.{◌≤◌}
-use lib.ListN.{take}
+use Rattle.std.proofs.Common.{◌≡◌, ◌≤◌, take}
 use Rattle.admission.specs.Checked.{table_in, rows_in}
 use Rattle.ordering.specs.Order.{last_holding}
 use Rattle.ordering.proofs.search.last_holding.Given as goal

@@ -1,6 +1,4 @@
-use mathlib.Core.Path.{◌≡◌, ap, ◌∙◌}
-use native.Mathlib.Omega.{arith}
-use lib.ListN.{length}
+use Rattle.std.proofs.Common.{◌≡◌, ap, ◌∙◌, arith, length}
 use Rattle.terms.specs.Limits.{max_places}
 use Rattle.layout.specs.Words.{word_count, room_of_words, put_row}
 use Rattle.layout.proofs.RoundTrip.{right}

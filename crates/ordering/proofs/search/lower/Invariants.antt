@@ -1,5 +1,5 @@
 -- `ordering::search::lower` meets its contract. The loop's invariant: the rows between i and q have gone up. Assumes nothing.
-use Prim.Native.Nat.{◌-◌}
+use Rattle.std.proofs.Common.{◌-◌}
 use Rattle.ordering.proofs.InPlace.{Lowering}
 use Rattle.ordering.proofs.search.lower.Given as goal
 

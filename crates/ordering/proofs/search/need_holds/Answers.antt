@@ -1,5 +1,5 @@
 -- `ordering::search::need_holds` meets its contract. The sums less its own are those of the others. Assumes nothing.
-use mathlib.Core.Path.{◌∙◌}
+use Rattle.std.proofs.Common.{◌∙◌}
 use Rattle.terms.specs.Limits.{max_places}
 use Rattle.admission.proofs.Rows.{denominator_word, head_there}
 use Rattle.ordering.proofs.InPlace.{one, burst_inside, rate_inside, line_left, parts_fit, need_is}

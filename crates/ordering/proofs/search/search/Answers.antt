@@ -1,5 +1,4 @@
-use mathlib.Core.Path.{refl, ap, sym, ◌∙◌}
-use native.Mathlib.Omega.{arith}
+use Rattle.std.proofs.Common.{refl, ap, sym, ◌∙◌, arith}
 use Rattle.terms.specs.Limits.{max_places}
 use Rattle.admission.specs.Checked.{rows_in}
 use Rattle.admission.proofs.Rows.{count_word, head_there}

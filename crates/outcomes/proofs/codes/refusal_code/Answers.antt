@@ -1,5 +1,5 @@
 -- `outcomes::codes::refusal_code` meets its contract. By the place that the refusal names, which is below the largest N. Assumes nothing.
-use native.Mathlib.Omega.{arith}
+use Rattle.std.proofs.Common.{arith}
 use Rattle.outcomes.proofs.Numbering.{code_no_place, code_place}
 use Rattle.std.proofs.lemmas.Grind.{common_steps}
 use Rattle.outcomes.proofs.codes.refusal_code.Goals as goal

@@ -1,7 +1,6 @@
 -- `queries::figures::figures_words` meets its contract. In a sound state the table passes checks 1 to 6, so that the wait and the finish
 -- figure can be worked out. Assumes nothing.
-use mathlib.Core.Path.{◌≡◌, ap, ap₂, sym, ◌∙◌}
-use Prim.Native.Nat.{◌≤◌, ◌<◌}
+use Rattle.std.proofs.Common.{◌≡◌, ap, ap₂, sym, ◌∙◌, ◌≤◌, ◌<◌}
 use Rattle.terms.specs.Limits.{max_places, max_need}
 use Rattle.terms.specs.Refusals.{verdict_of, faultless, then}
 use Rattle.terms.specs.Table.{need_bounds}

@@ -1,11 +1,6 @@
 -- `queries::lead::lead_words` meets its contract. In a sound state D and the place's rate are at most the largest denominator, so that with a
 -- log that passes 13 the difference fits. Assumes nothing.
-use mathlib.Core.Path.{◌≡◌, ap, ap₂, sym, ◌∙◌}
-use Prim.Native.Nat.{◌≤◌}
-use native.Mathlib.Omega.{arith}
-use borrow.Author.Tests.{leb-true}
-use lib.ListN.{length}
-use mir.Facts.{to_z-of_z}
+use Rattle.std.proofs.Common.{◌≡◌, ap, ap₂, sym, ◌∙◌, ◌≤◌, arith, leb-true, length, to_z-of_z}
 use Rattle.terms.specs.Limits.{max_places, max_input}
 use Rattle.terms.specs.Refusals.{verdict_of, faultless, then}
 use Rattle.terms.specs.Table.{rate}

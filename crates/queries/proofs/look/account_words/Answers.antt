@@ -1,5 +1,5 @@
 -- `queries::look::account_words` meets its contract. A place that passes 23 and 11 has its account among the words. Assumes nothing.
-use mathlib.Core.Path.{◌≡◌, ap, sym, ◌∙◌}
+use Rattle.std.proofs.Common.{◌≡◌, ap, sym, ◌∙◌}
 use Rattle.terms.specs.Limits.{max_places}
 use Rattle.terms.specs.Refusals.{verdict_of, faultless}
 use Rattle.terms.specs.State.{place_verdict}

@@ -1,5 +1,5 @@
 -- `queries::look::standing_words` meets its contract. The slot number and N are words of the head. Assumes nothing.
-use mathlib.Core.Path.{sym, ◌∙◌}
+use Rattle.std.proofs.Common.{sym, ◌∙◌}
 use Rattle.terms.specs.Limits.{max_places}
 use Rattle.layout.specs.Words.{words_state}
 use Rattle.admission.proofs.Rows.{head_there}

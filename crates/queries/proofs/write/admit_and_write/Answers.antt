@@ -1,5 +1,5 @@
 -- `queries::write::admit_and_write` meets its contract. What admission finds is handed on. Assumes nothing.
-use mathlib.Core.Path.{◌∙◌}
+use Rattle.std.proofs.Common.{◌∙◌}
 use Rattle.terms.proofs.Checks.{gate_passed}
 use Rattle.queries.proofs.write.admit_and_write.Goals as goal
 

@@ -1,9 +1,6 @@
 -- `queries::write::numbers_of_words` meets its contract. The loop's invariant: where D and N were stored in front of a list, D, N and the
 -- numbers of the first p rows stand in front of it now. Assumes nothing.
-use mathlib.Core.Path.{◌≡◌}
-use mathlib.Core.List.{List}
-use Prim.Native.Nat.{ℕ, ◌+◌, ◌-◌, ◌*◌, ◌≤◌}
-use lib.ListN.{length}
+use Rattle.std.proofs.Common.{◌≡◌, List, ℕ, ◌+◌, ◌-◌, ◌*◌, ◌≤◌, length}
 use Rattle.lists.specs.Overwriting.{written_over}
 use Rattle.terms.specs.Limits.{max_places}
 use Rattle.table_bytes.proofs.Writings.{numbers_to}

@@ -1,10 +1,7 @@
 -- `queries::write::write_words` meets its contract. By what admission found, then the room for the bytes; the numbers are put only
 -- where both pass.
 -- Assumes nothing.
-use mathlib.Core.Path.{◌≡◌, refl, ap, sym, ◌∙◌}
-use Prim.Native.Nat.{◌+◌, ◌-◌, ◌*◌, ◌≤◌}
-use native.Mathlib.Omega.{arith}
-use lib.ListN.{length, take}
+use Rattle.std.proofs.Common.{◌≡◌, refl, ap, sym, ◌∙◌, ◌+◌, ◌-◌, ◌*◌, ◌≤◌, arith, length, take}
 use Rattle.terms.specs.Limits.{max_places}
 use Rattle.terms.specs.Refusals.{faultless, verdict_of}
 use Rattle.terms.specs.Figures.{admission_verdict}

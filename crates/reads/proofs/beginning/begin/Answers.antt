@@ -1,5 +1,5 @@
 -- `reads::beginning::begin` meets its contract. By check 13. Assumes nothing.
-use mathlib.Core.Path.{ap, sym, ◌∙◌}
+use Rattle.std.proofs.Common.{ap, sym, ◌∙◌}
 use Rattle.terms.specs.Refusals.{verdict_of}
 use Rattle.reads.proofs.Beginnings.{input_refused, input_accepted}
 use Rattle.reads.specs.Parts.{begun_as}

@@ -1,8 +1,5 @@
 -- `reads::beginning::begin_at_0` meets its contract. By what the start answers. Assumes nothing.
-use mathlib.Core.Path.{◌≡◌, refl, ap, ◌∙◌}
-use mathlib.Core.List.{List}
-use Prim.Native.Nat.{ℕ}
-use lib.ListN.{replicate, drop}
+use Rattle.std.proofs.Common.{◌≡◌, refl, ap, ◌∙◌, List, ℕ, replicate, drop}
 use Rattle.terms.specs.Limits.{max_places}
 use Rattle.terms.specs.Answers.{unless, start_answer_of}
 use Rattle.layout.specs.Words.{word_count, state_of}

@@ -1,5 +1,5 @@
 -- `reads::beginning::begin_table` meets its contract. By the number that is the table's length. Assumes nothing.
-use mathlib.Core.Path.{ap, sym, ◌∙◌}
+use Rattle.std.proofs.Common.{ap, sym, ◌∙◌}
 use Rattle.reads.proofs.Beginnings.{size_refused, size_passes, table_begins}
 use Rattle.reads.specs.Parts.{begun_as}
 use Rattle.table_bytes.specs.Reading.{field_of}

@@ -1,5 +1,4 @@
-use mathlib.Core.Path.{refl, ap, sym, ◌∙◌}
-use native.Mathlib.Omega.{arith}
+use Rattle.std.proofs.Common.{refl, ap, sym, ◌∙◌, arith}
 use lib.ListN.{length-replicate}
 use Rattle.reads.proofs.Counting.{counting_none, counting_next, counting_stop, counting_end, counting_length}
 use Rattle.table_bytes.specs.Reading.{field_of}

@@ -1,7 +1,5 @@
 -- `reads::counts::read_counts` meets its contract. The loop's invariant: the first p counts are read. Assumes nothing.
-use mathlib.Core.Path.{◌≡◌}
-use Prim.Native.Nat.{◌-◌}
-use lib.ListN.{length}
+use Rattle.std.proofs.Common.{◌≡◌, ◌-◌, length}
 use Rattle.terms.specs.Limits.{max_places}
 use Rattle.reads.proofs.Counting.{Counting}
 use Rattle.reads.proofs.counts.read_counts.Given as goal

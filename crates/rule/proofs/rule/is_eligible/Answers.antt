@@ -1,5 +1,5 @@
 -- `rule::rule::is_eligible` meets its contract. Nothing waits, or the test of credit and rate. Assumes nothing.
-use mathlib.Core.Path.{sym}
+use Rattle.std.proofs.Common.{sym}
 use Rattle.rule.proofs.Accounts.{eligible_idle, eligible_waiting}
 use Rattle.rule.proofs.rule.is_eligible.Goals as goal
 

@@ -1,6 +1,5 @@
 -- `rule::rule::pass` meets its contract. Waiting; not waiting and capped; not waiting and below the burst. Assumes nothing.
-use mathlib.Core.Path.{sym}
-use native.Mathlib.Omega.{arith}
+use Rattle.std.proofs.Common.{sym, arith}
 use Rattle.rule.proofs.Accounts.{passed_waiting, passed_capped, passed_below}
 use Rattle.rule.proofs.rule.pass.Goals as goal
 

@@ -1,7 +1,6 @@
 -- `rule::rule::serve` meets its contract. An eligible place has a transfer waiting and credit and rate of at least D, so
 -- both differences fit. Assumes nothing.
-use mathlib.Core.Path.{refl}
-use native.Mathlib.Omega.{arith}
+use Rattle.std.proofs.Common.{refl, arith}
 use Rattle.rule.specs.Rule.{served}
 use Rattle.rule.proofs.Accounts.{eligible_true}
 use Rattle.rule.proofs.rule.serve.Goals as goal

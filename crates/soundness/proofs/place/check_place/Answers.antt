@@ -1,7 +1,5 @@
 -- `soundness::place::check_place` meets its contract. Two gates. Assumes nothing.
-use mathlib.Core.Path.{◌≡◌, sym, ◌∙◌}
-use mathlib.Core.Bool.{true}
-use native.Mathlib.Omega.{arith}
+use Rattle.std.proofs.Common.{◌≡◌, sym, ◌∙◌, true, arith}
 use Rattle.terms.specs.Limits.{max_places}
 use Rattle.terms.specs.State.{sound}
 use Rattle.layout.specs.Words.{room_of_words, state_of}

@@ -1,10 +1,5 @@
 -- `soundness::soundness::is_sound` meets its contract: each way out is a law of Tests. Assumes nothing.
-use mathlib.Core.Path.{◌≡◌, sym, ap, ◌∙◌}
-use mathlib.Core.Bool.{Bool, true}
-use mathlib.Core.List.{List}
-use Prim.Native.Nat.{ℕ, ◌≤◌}
-use native.Mathlib.Omega.{arith}
-use lib.ListN.{length, get_or, drop}
+use Rattle.std.proofs.Common.{◌≡◌, sym, ap, ◌∙◌, Bool, true, List, ℕ, ◌≤◌, arith, length, get_or, drop}
 use Rattle.lists.specs.Choices.{in_range}
 use Rattle.lists.specs.Sums.{every}
 use Rattle.lists.proofs.Tests.{in_range_lem}

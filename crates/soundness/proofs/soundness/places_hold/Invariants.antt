@@ -1,5 +1,5 @@
 -- `soundness::soundness::places_hold` meets its contract. The loop's invariant, `Held`: what the first p places have come to. Assumes nothing.
-use Prim.Native.Nat.{◌-◌}
+use Rattle.std.proofs.Common.{◌-◌}
 use Rattle.layout.specs.Words.{state_of}
 use Rattle.soundness.proofs.Walk.{Held}
 use Rattle.soundness.proofs.soundness.places_hold.Given as goal

@@ -1,5 +1,5 @@
 -- `starts::bytes::start_bytes` meets its contract. The bytes are read into the words, and the start is made of them. Assumes nothing.
-use mathlib.Core.Path.{ap, sym, ◌∙◌}
+use Rattle.std.proofs.Common.{ap, sym, ◌∙◌}
 use Rattle.terms.specs.Limits.{max_places}
 use Rattle.terms.specs.Refusals.{refusal_of}
 use Rattle.terms.specs.Start.{start, turned_down}

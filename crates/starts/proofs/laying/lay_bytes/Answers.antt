@@ -1,9 +1,5 @@
 -- `starts::laying::lay_bytes` meets its contract. D, then N from what D left, and then the places from what N left. Assumes nothing.
-use mathlib.Core.Path.{ap, sym, ◌∙◌}
-use mathlib.Core.List.{List}
-use Prim.Native.Nat.{ℕ, ◌-◌}
-use native.Mathlib.Omega.{arith}
-use lib.ListN.{length, take, drop}
+use Rattle.std.proofs.Common.{ap, sym, ◌∙◌, List, ℕ, ◌-◌, arith, length, take, drop}
 use Rattle.terms.specs.Limits.{max_places}
 use Rattle.terms.specs.Table.{denominator_bounds, count_bounds}
 use Rattle.table_bytes.proofs.Readings.{Took, took, turned_down_lem, reach_first, reach_next, reach_stop, stop_first, table_begins}

@@ -1,7 +1,4 @@
-use mathlib.Core.Path.{◌≡◌, ap, sym, ◌∙◌}
-use native.Mathlib.Omega.{arith}
-use borrow.Author.Tests.{eq-eqb, ne_eqb}
-use lib.ListN.{length}
+use Rattle.std.proofs.Common.{◌≡◌, ap, sym, ◌∙◌, arith, eq-eqb, ne_eqb, length}
 use Rattle.terms.specs.Limits.{max_places}
 use Rattle.terms.specs.Refusals.{gate}
 use Rattle.table_bytes.specs.Reading.{row_of}

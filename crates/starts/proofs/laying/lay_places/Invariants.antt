@@ -1,6 +1,6 @@
 -- `starts::laying::lay_places` meets its contract. The loop's invariant: the first p rows stand in the words, and what is left of the
 -- bytes comes to the same as all of them. Assumes nothing.
-use Prim.Native.Nat.{◌-◌}
+use Rattle.std.proofs.Common.{◌-◌}
 use Rattle.starts.proofs.Rows.{Reading}
 use Rattle.starts.proofs.laying.lay_places.Given as goal
 

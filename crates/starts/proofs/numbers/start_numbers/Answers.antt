@@ -1,5 +1,5 @@
 -- `starts::numbers::start_numbers` meets its contract. The start of words is that of the table that was laid into them. Assumes nothing.
-use mathlib.Core.Path.{ap, ◌∙◌}
+use Rattle.std.proofs.Common.{ap, ◌∙◌}
 use Rattle.terms.specs.Limits.{max_places}
 use Rattle.layout.proofs.Stores.{right_stands}
 use Rattle.opening.proofs.Opened.{start_of}

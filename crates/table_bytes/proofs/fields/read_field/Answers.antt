@@ -1,5 +1,5 @@
 -- `table_bytes::fields::read_field` meets its contract. By what the number's reading and its bounds say. Assumes nothing.
-use mathlib.Core.Path.{ap, sym, ◌∙◌}
+use Rattle.std.proofs.Common.{ap, sym, ◌∙◌}
 use Rattle.terms.specs.Refusals.{verdict_of}
 use Rattle.table_bytes.proofs.Readings.{field_value, field_fault, field_stop}
 use Rattle.table_bytes.proofs.fields.read_field.Goals as goal

@@ -1,5 +1,5 @@
 -- `table_bytes::fields::read_value` meets its contract. By what the number's reading says. Assumes nothing.
-use mathlib.Core.Path.{sym, ◌∙◌}
+use Rattle.std.proofs.Common.{sym, ◌∙◌}
 use Rattle.table_bytes.proofs.Readings.{value_read}
 use Rattle.table_bytes.proofs.fields.read_value.Goals as goal
 

@@ -1,5 +1,5 @@
 -- `table_bytes::rows::read_row` meets its contract. The row's four numbers, and where they are within their limits 17. Assumes nothing.
-use mathlib.Core.Path.{ap, sym, ◌∙◌}
+use Rattle.std.proofs.Common.{ap, sym, ◌∙◌}
 use Rattle.terms.specs.Refusals.{verdict_of}
 use Rattle.table_bytes.proofs.Accepted.{row_refused, row_limits, row_above, row_whole}
 use Rattle.table_bytes.proofs.rows.read_row.Goals as goal

@@ -1,5 +1,4 @@
-use mathlib.Core.Path.{sym, ap, ◌∙◌}
-use native.Mathlib.Omega.{arith}
+use Rattle.std.proofs.Common.{sym, ap, ◌∙◌, arith}
 use Rattle.terms.specs.State.{backlog}
 use Rattle.layout.specs.Words.{row_in, account_in}
 use Rattle.rule.proofs.Accounts.{eligible_idle}

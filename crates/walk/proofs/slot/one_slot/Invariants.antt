@@ -1,4 +1,4 @@
-use Prim.Native.Nat.{◌-◌}
+use Rattle.std.proofs.Common.{◌-◌}
 use Rattle.walk.proofs.Walked.{Searching}
 use Rattle.walk.proofs.slot.one_slot.Given as goal
 

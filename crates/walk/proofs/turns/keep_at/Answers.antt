@@ -1,4 +1,4 @@
-use mathlib.Core.Path.{sym, ap, ◌∙◌}
+use Rattle.std.proofs.Common.{sym, ap, ◌∙◌}
 use Rattle.layout.specs.Words.{row_in, account_in, put_account}
 use Rattle.rule.proofs.Accounts.{passed_waiting}
 use Rattle.walk.proofs.turns.keep_at.Goals as goal

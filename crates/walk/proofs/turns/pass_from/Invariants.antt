@@ -1,4 +1,4 @@
-use Prim.Native.Nat.{◌-◌}
+use Rattle.std.proofs.Common.{◌-◌}
 use Rattle.walk.proofs.Walked.{Passing}
 use Rattle.walk.proofs.turns.pass_from.Given as goal
 

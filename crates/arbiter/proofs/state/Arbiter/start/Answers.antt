@@ -1,12 +1,9 @@
 -- `arbiter::state::Arbiter::start` meets its contract. The table is laid into words, and the start is made of them. Assumes nothing.
-use mathlib.Core.Path.{◌≡◌, ap, ap₂, ◌∙◌}
-use lib.ListN.{length}
+use Rattle.std.proofs.Common.{◌≡◌, ap, ap₂, ◌∙◌, length, rules}
 use Rattle.terms.specs.Limits.{max_places}
 use Rattle.terms.specs.Start.{start}
 use Rattle.layout.specs.Words.{word_count}
 use Rattle.arbiter.proofs.ByValue.{room_full, right_full}
-use borrow.Author.Rules.{rules}
-use Rattle.std.proofs.Common.{rules}
 use Rattle.arbiter.proofs.state.Arbiter.start.Goals as goal
 
 pub start_right-answer-requires : goal.start_right-answer-requires

@@ -1,5 +1,5 @@
 -- `terms::bounds::Bounds::hold` meets its contract. One gate. Assumes nothing.
-use mathlib.Core.Path.{sym, ◌∙◌}
+use Rattle.std.proofs.Common.{sym, ◌∙◌}
 use Rattle.terms.specs.Refusals.{gate}
 use Rattle.terms.specs.Table.{held_to}
 use Rattle.terms.proofs.bounds.Bounds.hold.Goals as goal
