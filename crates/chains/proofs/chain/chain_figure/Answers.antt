@@ -1,7 +1,4 @@
-use mathlib.Core.Path.{ap, ◌∙◌}
-use Prim.Native.Nat.{ℕ, ◌+◌, ◌<◌, ◌≤◌}
-use native.Mathlib.Omega.{arith}
-use mathlib.Core.List.{List}
+use Rattle.std.proofs.Common.{ap, ◌∙◌, ℕ, ◌+◌, ◌<◌, ◌≤◌, arith, List}
 use Rattle.terms.specs.Limits.{max_places}
 use Rattle.terms.specs.Chain.{chain_figure}
 use Rattle.terms.proofs.Checks.{fair}
@@ -12,12 +9,15 @@ use Rattle.admission.specs.Checked.{table_in, Checked}
 use Rattle.admission.proofs.Rows.{count_word, head_there}
 use Rattle.chains.proofs.Names.{follows_nobody, follows_place}
 use Rattle.chains.proofs.Tables.{places_there}
-use Rattle.chains.proofs.Walks.{summed_all, summed_ends, summed_more}
+use Rattle.chains.proofs.Walks.{summed_none, summed_all, summed_ends, summed_more}
 use Rattle.chains.proofs.chain.chain_figure.Goals as goal
 
 -- no table has more places than there is ever room for
 count_most : (words : List ℕ) → Checked max_places words → (table_in words).count ≤ max_places
 count_most words k = omega (arith, (fair (room_of_words words) (table_in words) k.passes).count_most, (right max_places words k.right).room_most)
+
+pub loop-links-init : goal.loop-links-init
+loop-links-init c = summed_none _ _ _ _ _ c.requires.1
 
 pub count-n-requires : goal.count-n-requires
 count-n-requires c = head_there _ max_places c.requires.0.right

@@ -1,7 +1,6 @@
 -- `chains::chain::chain_figure` meets its contract. The loop's invariant, `Summed`: what is summed and what is still to be summed come to the
 -- whole, and what is summed is at most a largest finish figure for each link. Assumes nothing.
-use Prim.Native.Nat.{ℕ, ◌-◌}
-use mathlib.Core.List.{List}
+use Rattle.std.proofs.Common.{ℕ, ◌-◌, List}
 use Rattle.terms.specs.Limits.{max_places}
 use Rattle.terms.specs.Table.{requestors_of}
 use Rattle.terms.specs.Figures.{finish, most_finish}
