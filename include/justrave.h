@@ -49,9 +49,9 @@
  * The stack. The library follows the System V calling convention of x86-64. It finds the stack aligned to 16 bytes, as every caller
  * leaves it, and keeps it so; and it uses the red zone, the 128 bytes below the stack pointer. An interrupt handler that runs on the same
  * stack must skip these 128 bytes before it writes, as the handlers of a process's signals do. How many bytes of stack an accepted
- * call takes, its return address and the red zone included, measured with the largest N by tests/stack: an order 4,440, a write 1,320, a
- * start from bytes 472, one from numbers 248, a chain 216, a lead 184, figures 168, a carrying over and an account 136, a slot, a run and
- * a standing 88, a post 80, the layout and the number of a state's words 24. JUSTRAVE_STACK is more than each.
+ * call takes, its return address and the red zone included, measured with the largest N by tests/stack: an order 4,360, a write 1,256, a
+ * start from bytes 488, a chain 176, one from numbers 152, a carrying over 144, a lead and figures 128, a slot and a run 112, an account and
+ * a standing 96, a post 80, the layout and the number of a state's words 24. JUSTRAVE_STACK is more than each.
  */
 #ifndef JUSTRAVE_H
 #define JUSTRAVE_H

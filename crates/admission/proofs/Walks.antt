@@ -1,6 +1,6 @@
 -- The walks over the rows of words. From place 0 on: a sum above a place, a check of the rows of places 0 to N−1, and check 7, which does
 -- both; from place N on: that the rows past the table are clear. For any room. Assumes nothing.
-use Rattle.std.proofs.Common.{◌≡◌, refl, ap, sym, ◌∙◌, Bool, true, false, List, ℕ, ◌+◌, ◌≤◌, ◌<◌, arith, leb, length, take, drop}
+use Rattle.std.proofs.Common.{◌≡◌, refl, ap, sym, ◌∙◌, Bool, true, false, List, ℕ, ◌+◌, ◌-◌, ◌≤◌, ◌<◌, arith, leb, length, take, drop}
 use Rattle.lists.specs.Sums.{total, every}
 use Rattle.lists.proofs.Sums.{total_take_rises}
 use Rattle.lists.proofs.Tests.{true_false, every_pass, every_stop, every_end}
@@ -9,12 +9,12 @@ use Rattle.terms.specs.declared.place.Requestor.{Requestor}
 use Rattle.terms.specs.Table.{rate, burst, no_requestor, requestor_clear, requestor_at, requestors_of, each_place, tail_verdict}
 use Rattle.terms.specs.Refusals.{Verdict, faultless, fault, refusal, refusal_at, gate}
 use Rattle.terms.specs.State.{is_faultless}
-use Rattle.terms.specs.Figures.{finish, finish_verdict, finishes_verdict}
+use Rattle.terms.specs.Figures.{finish_of, finish, finish_verdict, finishes_verdict}
 use Rattle.terms.proofs.Checks.{gate_passed, gate_failed, fair}
 use Rattle.terms.proofs.Places.{each_pass, each_stop, each_end}
 use Rattle.layout.specs.Words.{word_count, room_of_words, row_in}
 use Rattle.admission.specs.Checked.{table_in, rows_in, Checked}
-use Rattle.admission.proofs.Rows.{rows_length, row_at, sum_next, placed}
+use Rattle.admission.proofs.Rows.{rows_length, row_at, sum_next, Placed, placed, figure}
 
 -- ---- a sum above a place
 
@@ -33,11 +33,6 @@ module _ (f : Requestor → ℕ) (none : f no_requestor ≡ 0) (words : List ℕ
   -- on the way to place p no sum is above the whole
   pub summed_at_most : (p : ℕ) → q < p → sum + f (row_in words q) ≤ total f (take p (rows_in words))
   summed_at_most p h = omega (arith, summed_more, total_take_rises f (q + 1) p (rows_in words) (omega arith))
-
-pub summed_end : (f : Requestor → ℕ) (words : List ℕ) (sum q p : ℕ) → Summed f words sum q → q ≤ p → p ≤ q → Summed f words sum p
-summed_end f words sum q p v below past =
-    let all : q ≡ p = omega arith in
-    v ∙ ap (λ k. total f (take k (rows_in words))) all
 
 -- ---- a check of the rows of places 0 to N−1
 
@@ -88,28 +83,36 @@ pub record Carried (words : List ℕ) (bursts rates p : ℕ) : Type 0 where
 pub carried_none : (words : List ℕ) → Carried words 0 0 0
 carried_none words = record { bursts_are = summed_none burst words; rates_are = summed_none rate words; walked = refl }
 
-module _ (words : List ℕ) (bursts rates p : ℕ) (v : Carried words bursts rates p) where
-  module _ (most : ℕ) (ok : Checked most words) (h : p < (table_in words).count) where
-    few : (table_in words).count ≤ room_of_words words
-    few = (fair _ _ ok.passes).count_most
+-- the row at place p, tested with the sums that are carried
+module _ (most : ℕ) (words : List ℕ) (bursts rates p d : ℕ) (r : Requestor) (on : Bool) (v : Carried words bursts rates p) (ok : Checked most words)
+    (h : p < (table_in words).count) (ed : d ≡ (table_in words).denominator) (er : r ≡ row_in words p)
+    (tested : on ≡ leb (finish_of d bursts (d - rates) r.rate r.need.0) r.within.0) where
+  few : (table_in words).count ≤ room_of_words words
+  few = (fair _ _ ok.passes).count_most
 
-    there : word_count (p + 1) ≤ length words
-    there = (placed most words p ok h).there
+  facts : Placed most words p
+  facts = placed most words p ok h
 
-    pub carried_more : finish_holds words p (row_in words p) ≡ true → Carried words (bursts + (row_in words p).burst) (rates + (row_in words p).rate) (p + 1)
-    unfolding finish_verdict
-    carried_more on = record {
-      bursts_are = summed_more burst refl words bursts p v.bursts_are there;
-      rates_are = summed_more rate refl words rates p v.rates_are there;
-      walked = walk_pass (finish_check words) words p v.walked few h refl (gate_passed _ _ _ on);
-    }
+  holds : on ≡ finish_holds words p (row_in words p)
+  holds =
+      tested
+      ∙ ap (λ x. leb x r.within.0) (figure most words p facts d bursts rates r.rate r.need.0 ed v.bursts_are v.rates_are (ap (λ x. x.rate) er))
+      ∙ ap (finish_holds words p) er
 
-    pub carried_stop : finish_holds words p (row_in words p) ≡ false → fault (refusal_at 7 p) ≡ finishes_verdict (table_in words)
-    unfolding finish_verdict
-    carried_stop off = walk_stop (finish_check words) words p v.walked few h refl (gate_failed _ _ _ off)
+  pub carried_more : on ≡ true → Carried words (bursts + r.burst) (rates + r.rate) (p + 1)
+  unfolding finish_verdict
+  carried_more e = rw er (record {
+    bursts_are = summed_more burst refl words bursts p v.bursts_are facts.there;
+    rates_are = summed_more rate refl words rates p v.rates_are facts.there;
+    walked = walk_pass (finish_check words) words p v.walked few h refl (gate_passed _ _ _ (sym holds ∙ e));
+  })
 
-  pub carried_end : (table_in words).count ≤ p → faultless ≡ finishes_verdict (table_in words)
-  carried_end past = walk_end (finish_check words) words p v.walked past
+  pub carried_stop : on ≡ false → fault (refusal_at 7 p) ≡ finishes_verdict (table_in words)
+  unfolding finish_verdict
+  carried_stop e = walk_stop (finish_check words) words p v.walked few h refl (gate_failed _ _ _ (sym holds ∙ e))
+
+pub carried_end : (words : List ℕ) (bursts rates p : ℕ) → Carried words bursts rates p → (table_in words).count ≤ p → faultless ≡ finishes_verdict (table_in words)
+carried_end words bursts rates p v past = walk_end (finish_check words) words p v.walked past
 
 -- ---- the rows past place N−1
 

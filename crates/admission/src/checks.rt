@@ -9,35 +9,30 @@ ghost use Rattle.admission.specs.Checked.{table_in, Counted};
 
 use crate::sums::rates_above;
 use layout::words::{count, denominator, requestor, room_of};
-use terms::place::is_clear;
-use terms::refusals::{Cause, InputRefusal, Verdict};
+use terms::refusals::{Cause, InputRefusal};
 
 // The part of clause 12.2 that looks past place N-1.
-pub fn check_tail(words: &[u64]) -> Verdict
+#[tactic(auto, using(layout::proofs::RoundTrip::right, crate::proofs::Rows::count_word, crate::proofs::Rows::within_room, crate::proofs::Walks::tail_pass, crate::proofs::Walks::tail_stop, crate::proofs::Walks::tail_end))]
+pub fn check_tail(words: &[u64]) -> Result<(), Cause>
     requires { right_length max_places words.now ≡ true }
     ensures { verdict_of result ≡ tail_verdict (table_in words.now) }
 {
-    let room = room_of(words);
-    let mut p = count(words);
-    while p < room {
-        let r = requestor(words, p);
-        if !is_clear(r) {
-            return Verdict::Fault(Cause::Input(InputRefusal::Count));
+    for p in count(words)..room_of(words) {
+        if !requestor(words, p).is_none() {
+            return Err(InputRefusal::Count.into());
         }
-        p = p + 1;
     }
-    Verdict::Faultless
+    Ok(())
 }
 
 // Clause 12.6.
-pub fn check_rate_sum(words: &[u64]) -> Verdict
+#[tactic(auto, using(layout::proofs::RoundTrip::right, crate::proofs::Rows::count_word, crate::proofs::Rows::denominator_word, crate::proofs::Rows::within_room), unfolding(terms::specs::Table::rate_sum_verdict, terms::specs::Refusals::gate))]
+pub fn check_rate_sum(words: &[u64]) -> Result<(), Cause>
     requires { Counted max_places words.now × (total rate (requestors_of (table_in words.now)) < 2 ^ 64) }
     ensures { verdict_of result ≡ rate_sum_verdict (table_in words.now) }
 {
-    let d = denominator(words);
-    let n = count(words);
-    if rates_above(words, n) <= d {
-        return Verdict::Faultless;
+    if rates_above(words, count(words)) <= denominator(words) {
+        return Ok(());
     }
-    Verdict::Fault(Cause::Input(InputRefusal::RateSum))
+    Err(InputRefusal::RateSum.into())
 }

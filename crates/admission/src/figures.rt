@@ -10,6 +10,7 @@ use layout::words::{denominator, rate};
 use terms::units::{Slots, Transfers};
 
 // a / b, rounded up.
+#[tactic(auto, unfolding(terms::specs::Figures::rounded_up))]
 fn rounded_up(a: u64, b: u64) -> u64
     requires { (1 ≤ b) × (a + b < 2 ^ 64) }
     ensures figure { result ≡ rounded_up a b }
@@ -29,6 +30,7 @@ pub fn wait(words: &[u64], p: usize) -> Slots
 }
 
 // The finish figure of its parts, B, R, the place's own rate n and j, as one quotient (clause 7.3).
+#[tactic(auto, using(crate::proofs::Products::products, terms::proofs::Figures::finish_most))]
 fn finish_of(d: u64, bursts: u64, left: u64, n: u64, j: Transfers) -> Slots
     requires { Parts max_places d bursts left n j.0 }
     ensures figure { result.0 ≡ finish_of d bursts left n j.0 }
@@ -39,6 +41,7 @@ fn finish_of(d: u64, bursts: u64, left: u64, n: u64, j: Transfers) -> Slots
 
 // Whether the finish figure of these parts is at most L. So it is exactly if L slots, taken left * n times, are not below the sum, and
 // nothing is divided.
+#[tactic(auto, using(crate::proofs::Products::products))]
 pub fn finish_is_within(d: u64, bursts: u64, left: u64, n: u64, j: Transfers, within: Slots) -> bool
     requires { Parts max_places d bursts left n j.0 × (within.0 ≤ max_within) }
     ensures { result ≡ leb (finish_of d bursts left n j.0) within.0 }
@@ -47,14 +50,13 @@ pub fn finish_is_within(d: u64, bursts: u64, left: u64, n: u64, j: Transfers, wi
 }
 
 // The finish figure of place p for j transfers.
+#[tactic(auto, using(crate::proofs::Rows::placed, crate::proofs::Rows::denominator_word, crate::proofs::Rows::parts))]
 pub fn finish(words: &[u64], p: usize, j: Transfers) -> Slots
     requires { Checked max_places words.now × (p < (table_in words.now).count) × (j.0 ≤ max_need) }
     ensures figure { result.0 ≡ finish (table_in words.now).denominator (requestors_of (table_in words.now)) p j.0 }
     ensures small { result.0 ≤ most_finish max_places }
 {
     let d = denominator(words);
-    let n = rate(words, p);
     let left = d - rates_above(words, p);
-    let bursts = bursts_above(words, p);
-    finish_of(d, bursts, left, n, j)
+    finish_of(d, bursts_above(words, p), left, rate(words, p), j)
 }

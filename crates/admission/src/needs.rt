@@ -5,24 +5,25 @@ ghost use Rattle.terms.specs.Refusals.{verdict_of, faultless};
 ghost use Rattle.terms.specs.Table.{fields_verdict, need_fits, need_fits_verdict};
 
 use terms::place::Requestor;
-use terms::refusals::{Cause, InputRefusal, Verdict};
+use terms::refusals::{Cause, InputRefusal};
 
 // Whether the need of a row is no larger than its burst.
+#[tactic(auto, unfolding(terms::specs::Table::need_fits))]
 pub fn need_fits(d: u64, r: Requestor) -> bool
     requires { (d ≤ max_burst) × (r.need.0 ≤ max_need) }
     ensures { result ≡ need_fits d r }
 {
-    let j = r.need;
-    j.0 * d <= r.burst
+    r.need.0 * d <= r.burst
 }
 
 // Clause 12.17 of the requestor at place p, which passed 3, 4 and 5.
-pub fn check_need_fits(d: u64, p: usize, r: Requestor) -> Verdict
+#[tactic(auto, using(terms::proofs::Checks::row_open), unfolding(terms::specs::Table::need_fits_verdict, terms::specs::Refusals::gate))]
+pub fn check_need_fits(d: u64, p: usize, r: Requestor) -> Result<(), Cause>
     requires { fields_verdict d p r ≡ faultless }
     ensures { verdict_of result ≡ need_fits_verdict d p r }
 {
     if need_fits(d, r) {
-        return Verdict::Faultless;
+        return Ok(());
     }
-    Verdict::Fault(Cause::Input(InputRefusal::NeedAboveBurst(p)))
+    Err(InputRefusal::NeedAboveBurst(p).into())
 }

@@ -1,5 +1,5 @@
 // The sums above a place, each by a loop over the places above it. That they fit is asked of the caller, who knows what the numbers are
-// held to.
+// held to. There are two loops: one with a closure for the field would be no shorter, as its contract would say which field that is.
 ghost use Rattle.std.specs.Prelude.{◌≡◌, ◌≤◌, ◌<◌, ◌^◌, length};
 ghost use Rattle.terms.specs.Figures.{bursts_above, rates_above};
 ghost use Rattle.layout.specs.Words.{word_count};
@@ -8,29 +8,27 @@ ghost use Rattle.admission.specs.Checked.{rows_in};
 use layout::words::{burst, rate};
 
 // The sum of the bursts above p: B of clause 7.1.
+#[tactic(auto, unfolding(lists::specs::Sums::total))]
 pub fn bursts_above(words: &[u64], p: usize) -> u64
     requires { (word_count p ≤ length words.now) × (bursts_above p (rows_in words.now) < 2 ^ 64) }
     ensures { result ≡ bursts_above p (rows_in words.now) }
 {
-    let mut bursts: u64 = 0;
-    let mut q: usize = 0;
-    while q < p {
-        bursts = bursts + burst(words, q);
-        q = q + 1;
+    let mut bursts = 0;
+    for q in 0..p {
+        bursts += burst(words, q);
     }
     bursts
 }
 
 // The sum of the rates above p; R of clause 7.1 is D less this.
+#[tactic(auto, unfolding(lists::specs::Sums::total))]
 pub fn rates_above(words: &[u64], p: usize) -> u64
     requires { (word_count p ≤ length words.now) × (rates_above p (rows_in words.now) < 2 ^ 64) }
     ensures { result ≡ rates_above p (rows_in words.now) }
 {
-    let mut rates: u64 = 0;
-    let mut q: usize = 0;
-    while q < p {
-        rates = rates + rate(words, q);
-        q = q + 1;
+    let mut rates = 0;
+    for q in 0..p {
+        rates += rate(words, q);
     }
     rates
 }

@@ -1,40 +1,64 @@
--- Each way out of checks 1 to 6 with 17 among them. For any room. Assumes nothing.
-use Rattle.std.proofs.Common.{◌≡◌, sym, ◌∙◌, ℕ, ◌*◌, ◌≤◌, mul-le-mul, arith, length, length-take}
+-- Each way out of checks 1 to 6 with 17 among them, and of a length's check. For any room. Assumes nothing.
+use Rattle.std.proofs.Common.{◌≡◌, refl, sym, Bool, true, false, List, ℕ, ◌*◌, ◌≤◌, ◌<◌, ◌^◌, mul-le-mul, arith, length, length-take}
 use Rattle.lists.specs.Sums.{total}
 use Rattle.terms.specs.declared.refusals.Refusal.{Refusal}
+use Rattle.terms.specs.Limits.{max_denominator, max_places}
+use Rattle.terms.specs.Refusals.{Verdict, faultless, fault, refusal, gate, then}
 use Rattle.terms.specs.Table.{Table, denominator_bounds, count_bounds, held_to, rate, requestors_of, fields_verdict, offered_row_verdict, tail_verdict, rate_sum_verdict, verdict_by, offered_verdict}
-use Rattle.terms.specs.Limits.{max_denominator}
-use Rattle.terms.specs.Refusals.{faultless, fault, then}
-use Rattle.terms.proofs.Checks.{then_open, two_fault, held_open, each_place_weaker, offered_row_open, rates_fit}
-use Rattle.admission.specs.Checked.{limits_verdict, offered_rows_verdict}
+use Rattle.terms.proofs.Checks.{gate_open, then_open, held_open, each_place_weaker, offered_row_open, rates_fit, offered_passes}
+use Rattle.layout.specs.Words.{room_of_words, right_length}
+use Rattle.layout.proofs.RoundTrip.{right}
+use Rattle.admission.specs.Checked.{table_in, limits_verdict, offered_rows_verdict, Counted, Checked}
+
+-- ---- a gate, and what follows it
+
+pub gate_then : (r : Refusal) (test : Bool) (rest : Verdict) → gate r test rest ≡ then (gate r test faultless) rest
+unfolding gate then
+gate_then r true rest = refl
+gate_then r false rest = refl
+
+pub gate_both : (r : Refusal) (test : Bool) (v rest : Verdict) → gate r test (then v rest) ≡ then (gate r test v) rest
+unfolding gate then
+gate_both r true v rest = refl
+gate_both r false v rest = refl
+
+pub gate_passes : (r : Refusal) (test : Bool) → faultless ≡ gate r test faultless → test ≡ true
+gate_passes r test e = (gate_open r test faultless (sym e)).0
+
+-- ---- checks 1 to 6 and 17
+
+then_first : (a b c : Verdict) → then a (then b c) ≡ then (then a b) c
+unfolding then
+then_first faultless b c = refl
+then_first (fault r) b c = refl
 
 module _ (limit : ℕ) (t : Table) where
-  pub limits_fault : {r : Refusal} → limits_verdict limit t ≡ fault r → fault r ≡ offered_verdict limit t
+  -- in the order in which words are checked
+  pub offered_parts : offered_verdict limit t ≡ then (limits_verdict limit t) (then (tail_verdict t) (then (offered_rows_verdict t) (rate_sum_verdict t)))
   unfolding verdict_by
-  limits_fault e = sym (two_fault _ _ _ _ e)
+  offered_parts = then_first (held_to denominator_bounds t.denominator) _ _
 
-  module _ (e : limits_verdict limit t ≡ faultless) where
-    pub limits_count : t.count ≤ limit
-    limits_count = (held_open (count_bounds limit) _ (then_open _ _ e).1).1
+  module _ (e : faultless ≡ limits_verdict limit t) where
+    limits_count : t.count ≤ limit
+    limits_count = (held_open (count_bounds limit) _ (then_open _ _ (sym e)).1).1
 
-    past_limits : offered_verdict limit t ≡ then (tail_verdict t) (then (offered_rows_verdict t) (rate_sum_verdict t))
-    unfolding verdict_by then
-    past_limits =
-        let a = then_open (held_to denominator_bounds t.denominator) (held_to (count_bounds limit) t.count) e in
-        rw (a.0, a.1)
+    -- so that the rates can be added up
+    sum_most : faultless ≡ offered_rows_verdict t → total rate (requestors_of t) ≤ limit * max_denominator
+    sum_most f =
+        let few : length (requestors_of t) ≤ limit = omega (arith, length-take t.count t.requestors, limits_count) in
+        let most = mul-le-mul few (held_open denominator_bounds _ (then_open _ _ (sym e)).0).1 in
+        let rows = each_place_weaker (offered_row_verdict t.denominator) (fields_verdict t.denominator) (λ p r ok. (offered_row_open t.denominator p r ok).0) 0 (requestors_of t) (sym f) in
+        omega (arith, rates_fit t.denominator (requestors_of t) rows, most)
 
-    pub rows_fault : {r : Refusal} → then (tail_verdict t) (offered_rows_verdict t) ≡ fault r → fault r ≡ offered_verdict limit t
-    rows_fault f = sym (past_limits ∙ two_fault (tail_verdict t) (offered_rows_verdict t) (rate_sum_verdict t) _ f)
+module _ (most : ℕ) (words : List ℕ) where
+  pub limits_counted : right_length most words ≡ true → faultless ≡ limits_verdict (room_of_words words) (table_in words) → Counted most words
+  limits_counted ok e = record { right = ok; count_most = limits_count (room_of_words words) (table_in words) e }
 
-    module _ (f : then (tail_verdict t) (offered_rows_verdict t) ≡ faultless) where
-      pub rows_pass : offered_verdict limit t ≡ rate_sum_verdict t
-      unfolding then
-      rows_pass = let a = then_open (tail_verdict t) (offered_rows_verdict t) f in past_limits ∙ rw (a.0, a.1)
+  pub laid_checked : faultless ≡ gate (refusal 23) (right_length most words) (offered_verdict (room_of_words words) (table_in words)) → Checked most words
+  laid_checked e =
+      let (ok, passes) = gate_open _ _ _ (sym e) in
+      record { right = ok; passes = offered_passes (room_of_words words) (table_in words) passes }
 
-      -- so that the rates can be added up
-      pub sum_most : total rate (requestors_of t) ≤ limit * max_denominator
-      sum_most =
-          let few : length (requestors_of t) ≤ limit = omega (arith, length-take t.count t.requestors, limits_count) in
-          let most = mul-le-mul few (held_open denominator_bounds _ (then_open _ _ e).0).1 in
-          let rows = each_place_weaker (offered_row_verdict t.denominator) (fields_verdict t.denominator) (λ p r ok. (offered_row_open t.denominator p r ok).0) 0 (requestors_of t) (then_open _ _ f).1 in
-          omega (arith, rates_fit t.denominator (requestors_of t) rows, most)
+pub rates_small : (words : List ℕ) → Counted max_places words → faultless ≡ limits_verdict (room_of_words words) (table_in words) → faultless ≡ offered_rows_verdict (table_in words)
+    → total rate (requestors_of (table_in words)) < 2 ^ 64
+rates_small words k e f = omega (arith, sum_most (room_of_words words) (table_in words) e f, (right max_places words k.right).room_most)

@@ -2,13 +2,13 @@
 use Rattle.std.specs.Prelude.{◌≡◌, length}
 use Rattle.lists.specs.Runs.{Result}
 use Rattle.terms.specs.Limits.{max_places}
-use Rattle.terms.specs.Answers.{Answer, start_answer_of}
+use Rattle.terms.specs.declared.answers.Outcome.{Outcome}
+use Rattle.terms.specs.Answers.{Answer, answer_of}
 use Rattle.terms.specs.Table.{Table}
 use Rattle.terms.specs.State.{State}
 use Rattle.layout.specs.Words.{word_count, state_of}
 use Rattle.arbiter.specs.declared.state.Arbiter.{Arbiter}
 use Rattle.arbiter.specs.declared.table.Table as code
-use Rattle.arbiter.specs.declared.start.StartResult.{StartResult}
 
 -- the state that an arbiter's words are (clause 1.4)
 abbrev pub held : Arbiter → State
@@ -18,8 +18,9 @@ held s = state_of s.words
 abbrev pub given : code.Table → Table
 given t = record { denominator = t.denominator; count = t.count; requestors = t.requestors }
 
-abbrev pub start_result_of : StartResult → Result State Answer
-start_result_of r = record { state = held r.state; answer = start_answer_of r.answer }
+-- what a call by value that has nothing to tell comes to: a start, a carrying over, a post
+abbrev pub result_of : Outcome Arbiter Unit → Result State Answer
+result_of o = record { state = held o.after; answer = answer_of o.answer }
 
 -- an arbiter has the words of a state with room for the largest N
 abbrev pub Full : Arbiter → Type 0

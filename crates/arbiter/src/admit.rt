@@ -1,7 +1,7 @@
 // Admission: checks 1 to 6 with 17 among them, and then 7, of the table that words are.
-ghost use Rattle.std.specs.Prelude.{◌≡◌, true};
+ghost use Rattle.std.specs.Prelude.{◌≡◌};
 ghost use Rattle.terms.specs.Limits.{max_places};
-ghost use Rattle.terms.specs.Refusals.{verdict_of, refusal, gate};
+ghost use Rattle.terms.specs.Refusals.{verdict_of, faultless, refusal, gate};
 ghost use Rattle.terms.specs.Table.{offered_verdict};
 ghost use Rattle.terms.specs.Figures.{admission_verdict};
 ghost use Rattle.layout.specs.Words.{room_of_words, right_length};
@@ -11,36 +11,33 @@ use crate::checks::check_offered;
 use crate::state::Arbiter;
 use admission::finishes::check_finishes;
 use layout::words::length_is_right;
-use terms::refusals::{Cause, StateRefusal, Verdict};
+use terms::refusals::{Cause, StateRefusal};
 
-// Of words that have a state's length.
-pub(crate) fn admit_right(words: &[u64]) -> Verdict
-    requires { right_length max_places words.now ≡ true }
-    ensures { verdict_of result ≡ admission_verdict (room_of_words words.now) (table_in words.now) }
+// Words of another length than a state's are no state's, which is 23.
+#[tactic(auto, unfolding(terms::specs::Refusals::gate))]
+pub fn check_length(words: &[u64]) -> Result<(), Cause>
+    ensures { verdict_of result ≡ gate (refusal 23) (right_length max_places words.now) faultless }
 {
-    let v = check_offered(words);
-    match v {
-        Verdict::Fault(_) => v,
-        Verdict::Faultless => check_finishes(words),
+    if !length_is_right(words, Arbiter::MAX_PLACES) {
+        return Err(StateRefusal::Unsound.into());
     }
+    Ok(())
 }
 
-// Admission but for 7, of any words: those of another length than a state's are no state's, which is 23.
-pub fn check_laid(words: &[u64]) -> Verdict
+// Admission but for 7, of any words.
+#[tactic(auto, using(crate::proofs::Verdicts::gate_then, crate::proofs::Verdicts::gate_passes), unfolding(terms::specs::Refusals::then))]
+pub fn check_laid(words: &[u64]) -> Result<(), Cause>
     ensures { verdict_of result ≡ gate (refusal 23) (right_length max_places words.now) (offered_verdict (room_of_words words.now) (table_in words.now)) }
 {
-    if length_is_right(words, Arbiter::MAX_PLACES) {
-        return check_offered(words);
-    }
-    Verdict::Fault(Cause::State(StateRefusal::Unsound))
+    check_length(words)?;
+    check_offered(words)
 }
 
 // The whole of admission, of any words.
-pub fn admit(words: &[u64]) -> Verdict
+#[tactic(auto, using(crate::proofs::Verdicts::gate_both, crate::proofs::Verdicts::laid_checked), unfolding(terms::specs::Refusals::then, terms::specs::Figures::admission_verdict))]
+pub fn admit(words: &[u64]) -> Result<(), Cause>
     ensures { verdict_of result ≡ gate (refusal 23) (right_length max_places words.now) (admission_verdict (room_of_words words.now) (table_in words.now)) }
 {
-    if length_is_right(words, Arbiter::MAX_PLACES) {
-        return admit_right(words);
-    }
-    Verdict::Fault(Cause::State(StateRefusal::Unsound))
+    check_laid(words)?;
+    check_finishes(words)
 }

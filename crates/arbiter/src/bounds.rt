@@ -1,5 +1,6 @@
 // What each number of a table is held to, with the refusal of a number outside: checks 1 to 5. A table given as numbers and a
 // table's bytes are held to the same.
+// Six functions, and not one that takes low and high: so each bound stands under its own name, beside the definition that it is.
 ghost use Rattle.std.specs.Prelude.{◌≡◌};
 ghost use Rattle.terms.specs.Table.{bounds_of, denominator_bounds, count_bounds, rate_bounds, burst_bounds, need_bounds, within_bounds};
 

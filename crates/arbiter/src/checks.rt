@@ -7,61 +7,43 @@ ghost use Rattle.layout.specs.Words.{room_of_words, right_length};
 ghost use Rattle.admission.specs.Checked.{table_in, limits_verdict, offered_rows_verdict, Counted};
 
 use crate::bounds::{count_bounds, denominator_bounds};
-use crate::rows::{check_offered_row, offered_row_holds};
+use crate::rows::check_offered_row;
 use admission::checks::{check_rate_sum, check_tail};
 use layout::words::{count, denominator, requestor, room_of};
-use terms::refusals::{Verdict, first_fault};
+use terms::refusals::Cause;
 
 // Check 1, and check 2 of N itself.
-fn check_limits(words: &[u64]) -> Verdict
+#[tactic(auto, using(admission::proofs::Rows::head_there, terms::proofs::Checks::held_by, admission::proofs::Rows::denominator_word, admission::proofs::Rows::count_word), unfolding(terms::specs::Refusals::then))]
+fn check_limits(words: &[u64]) -> Result<(), Cause>
     requires { right_length max_places words.now ≡ true }
     ensures { verdict_of result ≡ limits_verdict (room_of_words words.now) (table_in words.now) }
 {
-    let d = denominator(words);
-    let n = count(words);
-    let room = room_of(words);
-    let denominator = denominator_bounds().hold(d);
-    let count = count_bounds(room).hold(n as u64);
-    first_fault(denominator, count)
+    denominator_bounds().hold(denominator(words))?;
+    count_bounds(room_of(words)).hold(count(words) as u64)
 }
 
-// Checks 3, 4, 5 and 17, place by place. Which of them fails is asked only of a row that does not hold.
-fn check_rows(words: &[u64]) -> Verdict
+// Checks 3, 4, 5 and 17, place by place.
+#[tactic(auto, using(admission::proofs::Rows::head_there, admission::proofs::Rows::count_word, admission::proofs::Rows::denominator_word, admission::proofs::Rows::within_room, admission::proofs::Walks::walk_pass, admission::proofs::Walks::walk_break, admission::proofs::Walks::walk_end))]
+fn check_rows(words: &[u64]) -> Result<(), Cause>
     requires { Counted max_places words.now }
     ensures { verdict_of result ≡ offered_rows_verdict (table_in words.now) }
 {
     let d = denominator(words);
     let n = count(words);
-    let mut p: usize = 0;
-    let v = loop {
-        if n <= p {
-            break Verdict::Faultless;
-        }
-        let r = requestor(words, p);
-        if !offered_row_holds(d, p, r) {
-            break check_offered_row(d, p, r);
-        }
-        p = p + 1;
-    };
-    v
+    for p in 0..n {
+        check_offered_row(d, p, requestor(words, p))?;
+    }
+    Ok(())
 }
 
 // All of them. Rates are added up once each of them is known to be at most D.
-pub(crate) fn check_offered(words: &[u64]) -> Verdict
+#[tactic(auto, using(crate::proofs::Verdicts::offered_parts, crate::proofs::Verdicts::limits_counted, crate::proofs::Verdicts::rates_small), unfolding(terms::specs::Refusals::then))]
+pub(crate) fn check_offered(words: &[u64]) -> Result<(), Cause>
     requires { right_length max_places words.now ≡ true }
     ensures { verdict_of result ≡ offered_verdict (room_of_words words.now) (table_in words.now) }
 {
-    let limits = check_limits(words);
-    match limits {
-        Verdict::Fault(_) => limits,
-        Verdict::Faultless => {
-            let tail = check_tail(words);
-            let each = check_rows(words);
-            let rows = first_fault(tail, each);
-            match rows {
-                Verdict::Fault(_) => rows,
-                Verdict::Faultless => check_rate_sum(words),
-            }
-        }
-    }
+    check_limits(words)?;
+    check_tail(words)?;
+    check_rows(words)?;
+    check_rate_sum(words)
 }

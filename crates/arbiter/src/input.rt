@@ -4,14 +4,15 @@ ghost use Rattle.terms.specs.Refusals.{verdict_of};
 ghost use Rattle.terms.specs.Input.{input_verdict};
 
 use crate::state::Arbiter;
-use terms::refusals::{Cause, InputRefusal, Verdict};
+use terms::refusals::{Cause, InputRefusal};
 
 // Clause 12.13.
-pub fn check_input(bytes: usize) -> Verdict
+#[tactic(auto, unfolding(terms::specs::Input::input_verdict, terms::specs::Refusals::gate))]
+pub fn check_input(bytes: usize) -> Result<(), Cause>
     ensures { verdict_of result ≡ input_verdict bytes }
 {
     if Arbiter::MAX_INPUT < bytes {
-        return Verdict::Fault(Cause::Input(InputRefusal::TooLong));
+        return Err(InputRefusal::TooLong.into());
     }
-    Verdict::Faultless
+    Ok(())
 }

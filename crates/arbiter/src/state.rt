@@ -3,11 +3,12 @@ ghost use Rattle.std.specs.Prelude.{◌≡◌};
 ghost use Rattle.terms.specs.Limits.{max_denominator, max_places, old_places, max_burst, max_need, max_within, max_backlog, max_slot, max_input};
 ghost use Rattle.terms.specs.Start.{no_state, start};
 ghost use Rattle.layout.specs.Words.{word_count};
-ghost use Rattle.arbiter.specs.ByValue.{held, given, start_result_of};
+ghost use Rattle.arbiter.specs.ByValue.{held, given, result_of};
 
-use crate::start::{StartResult, start_right};
+use crate::start::start_laid;
 use crate::table::{Table, lay_table};
 use layout::words::{HEAD, PLACE};
+use terms::answers::Outcome;
 use terms::units::Slots;
 
 // The state, with room for the largest N. Where each field stands in the words: layout::words.
@@ -61,14 +62,14 @@ impl Arbiter {
     }
 
     // The state of a table and a first slot number that pass every check; else one whose every field is 0. Refused: 1 to 7, 17, 12.
-    pub fn start(t: Table, first: Slots) -> StartResult
-        ensures { start_result_of result ≡ start max_places (given t) first.0 }
+    pub fn start(t: Table, first: Slots) -> Outcome<Arbiter, ()>
+        ensures { result_of result ≡ start max_places (given t) first.0 }
     {
         let mut words = lay_table(t);
-        let answer = start_right(&mut words, first);
-        StartResult {
-            state: Arbiter { words: words },
-            answer: answer,
+        let answer = start_laid(&mut words, first);
+        Outcome {
+            after: Arbiter { words },
+            answer,
         }
     }
 }

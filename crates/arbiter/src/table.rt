@@ -7,7 +7,7 @@ ghost use Rattle.arbiter.specs.ByValue.{held, given};
 
 use crate::state::Arbiter;
 use layout::words::{count, denominator, put_head, put_row, requestor};
-use terms::place::{Requestor, no_requestor};
+use terms::place::Requestor;
 
 // D, N and the rows. Those past place N-1 must be 0 (clause 2.6).
 #[derive(Clone, Copy)]
@@ -23,11 +23,8 @@ pub fn lay_table(t: Table) -> [u64; Arbiter::WORDS]
 {
     let mut words = [0u64; Arbiter::WORDS];
     put_head(&mut words, t.denominator, t.count);
-    let mut p: usize = 0;
-    while p < Arbiter::MAX_PLACES {
-        let r = t.requestors[p];
-        put_row(&mut words, p, r);
-        p = p + 1;
+    for (p, r) in t.requestors.iter().enumerate() {
+        put_row(&mut words, p, *r);
     }
     words
 }
@@ -36,17 +33,13 @@ pub fn lay_table(t: Table) -> [u64; Arbiter::WORDS]
 pub fn table_of(s: Arbiter) -> Table
     ensures { given result ≡ (held s).table }
 {
-    let words = s.words;
-    let none = no_requestor();
-    let mut rows = [none; Arbiter::MAX_PLACES];
-    let mut p: usize = 0;
-    while p < Arbiter::MAX_PLACES {
-        rows[p] = requestor(&words, p);
-        p = p + 1;
+    let mut rows = [Requestor::NONE; Arbiter::MAX_PLACES];
+    for p in 0..Arbiter::MAX_PLACES {
+        rows[p] = requestor(&s.words, p);
     }
     Table {
-        denominator: denominator(&words),
-        count: count(&words),
+        denominator: denominator(&s.words),
+        count: count(&s.words),
         requestors: rows,
     }
 }

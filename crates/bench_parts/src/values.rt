@@ -9,7 +9,7 @@ ghost use Rattle.arbiter.specs.ByValue.{given, held};
 use arbiter::state::Arbiter;
 use arbiter::table::{Table, lay_table};
 use layout::words::{put_account, put_slot_number};
-use terms::place::{Account, Requestor, no_requestor};
+use terms::place::{Account, Requestor};
 use terms::units::{Slots, Transfers};
 
 // A rate n, a burst b, and the need of one transfer within l slots.
@@ -28,27 +28,25 @@ pub fn row(n: u64, b: u64, l: u64) -> Requestor
 pub fn needing(j: u64, r: Requestor) -> Requestor
     ensures { result ≡ record { rate = r.rate; burst = r.burst; need = record { 0 = j }; within = r.within } }
 {
-    let within = r.within;
     Requestor {
-        rate: r.rate,
-        burst: r.burst,
         need: Transfers(j),
-        within: within,
+        ..r
     }
 }
 
 // A table of D and N whose rows are all 0.
+#[tactic(auto, unfolding(terms::specs::Table::table_of, lists::specs::Overwriting::written_over))]
 fn bare_table(d: u64, n: usize) -> Table
     ensures { given result ≡ table_of max_places d n [] }
 {
-    let none = no_requestor();
     Table {
         denominator: d,
         count: n,
-        requestors: [none; Arbiter::MAX_PLACES],
+        requestors: [Requestor::NONE; Arbiter::MAX_PLACES],
     }
 }
 
+#[tactic(auto, unfolding(terms::specs::Table::table_of, lists::specs::Overwriting::written_over))]
 pub fn one_place(d: u64, r: Requestor) -> Table
     ensures { given result ≡ table_of max_places d 1 (r ∷ []) }
 {
@@ -57,6 +55,7 @@ pub fn one_place(d: u64, r: Requestor) -> Table
     t
 }
 
+#[tactic(auto, unfolding(terms::specs::Table::table_of, lists::specs::Overwriting::written_over))]
 pub fn two_places(d: u64, first: Requestor, second: Requestor) -> Table
     ensures { given result ≡ table_of max_places d 2 (first ∷ second ∷ []) }
 {
@@ -77,12 +76,13 @@ pub fn account(credit: u64, backlog: u64) -> Account
     ensures { result ≡ record { credit = credit; backlog = record { 0 = backlog } } }
 {
     Account {
-        credit: credit,
+        credit,
         backlog: Transfers(backlog),
     }
 }
 
 // Table T with these accounts at its two places. No start has made it, and it may break a rule.
+#[tactic(auto, using(layout::proofs::Stores::put_account_lem, layout::proofs::Stores::put_length, layout::proofs::Stores::put_slot, layout::proofs::Stores::put_slot_length, arbiter::proofs::ByValue::room_full))]
 pub fn t_with(first: Account, second: Account, slot: u64) -> Arbiter
     ensures { held result ≡ with_account (with_account (with_slot (with_table (no_state max_places) (table_of max_places 4 2 (record { rate = 1; burst = 8; need = record { 0 = 1 }; within = record { 0 = 4 } } ∷ record { rate = 1; burst = 4; need = record { 0 = 1 }; within = record { 0 = 7 } } ∷ []))) slot) 0 first) 1 second }
 {
@@ -90,5 +90,5 @@ pub fn t_with(first: Account, second: Account, slot: u64) -> Arbiter
     put_slot_number(&mut words, Slots(slot));
     put_account(&mut words, 0, first);
     put_account(&mut words, 1, second);
-    Arbiter { words: words }
+    Arbiter { words }
 }

@@ -2,8 +2,7 @@
 use arbiter::old::OldArbiter;
 use arbiter::state::Arbiter;
 use arbiter::table::Table;
-use bench_parts::printing;
-use bench_parts::printing::{case, decimals, number, numbers, refused, say, state, table, told};
+use bench_parts::printing::{accepted_or_refused, case, numbers, state, table, told_or_refused};
 use calls::admit::admit_table;
 use calls::carry::carry;
 use calls::chain::chain;
@@ -13,216 +12,124 @@ use calls::look::{account, standing};
 use calls::read::read_table;
 use calls::run::run;
 use calls::write::write_table;
-use groups::reading::{Reading, read_number};
+use groups::reading::read_number;
 use groups::writing::{number_len, write_number};
 use in_place::slot_through_reference;
 use ordering::order::order;
 use replay::replay;
 use std::io;
-use terms::answers::{
-    AccountAnswer, ChainAnswer, FiguresAnswer, LeadAnswer, OrderAnswer, ReadAnswer, RunAnswer,
-    SlotAnswer, StandingAnswer, StartAnswer, WriteAnswer,
-};
-use terms::refusals::Verdict;
+use terms::refusals::InputRefusal;
 use terms::units::{Slots, Transfers};
 
 // A refused reading hands back a table of zeros.
 pub fn reads_table(rt: &impl Print, bytes: &[u8]) -> io::Result<()> {
     let done = read_table(bytes);
-    let t = done.table;
-    let a = done.answer;
-    table(rt, t)?;
-    match a {
-        ReadAnswer::Accepted => say(rt, printing::ACCEPTED),
-        ReadAnswer::Refused(c) => refused(rt, c),
-    }
+    table(rt, done.after)?;
+    accepted_or_refused(rt, done.answer)
 }
 
 // The table in order; a refused one is of zeros.
 pub fn orders(rt: &impl Print, t: Table) -> io::Result<()> {
     let done = order(t);
-    let u = done.table;
-    let a = done.answer;
-    table(rt, u)?;
-    match a {
-        OrderAnswer::Ordered => say(rt, printing::ACCEPTED),
-        OrderAnswer::Refused(c) => refused(rt, c),
-    }
+    table(rt, done.after)?;
+    accepted_or_refused(rt, done.answer)
 }
 
 // The number and how many bytes it takes, or what is wrong.
 pub fn reads_number(rt: &impl Print, bytes: &[u8]) -> io::Result<()> {
     match read_number(bytes) {
-        Reading::Number(x, taken) => {
-            number(rt, x as u64)?;
-            told(rt, printing::TAKES, taken as u64)
-        }
-        Reading::Ended => say(rt, printing::ENDED),
-        Reading::Malformed => say(rt, printing::MALFORMED),
+        Ok((x, rest)) => print!(rt; " {x} t {}", bytes.len() - rest.len()),
+        Err(InputRefusal::BytesEnd) => print!(rt; " E"),
+        Err(_) => print!(rt; " M"),
     }
 }
 
-// How many bytes the number takes and how many were written, and the whole buffer after it.
-fn writes_into(rt: &impl Print, x: u32, buffer: &mut [u8]) -> io::Result<()> {
-    let wrote = write_number(x, buffer);
-    number(rt, x as u64)?;
-    told(rt, printing::TAKES, number_len(x) as u64)?;
-    told(rt, printing::WROTE, wrote as u64)?;
-    decimals(rt, buffer)
-}
-
+// How many bytes the number takes and how many were written, which are 0 without room, and the whole buffer after it.
 pub fn writes_number(rt: &impl Print, x: u32) -> io::Result<()> {
     let mut buffer = [170u8; 6];
-    writes_into(rt, x, &mut buffer)
+    let wrote = write_number(x, &mut buffer);
+    print!(rt; " {x} t {} b {}", number_len(x), wrote.unwrap_or(0))?;
+    numbers(rt, &buffer)
 }
 
 // The whole buffer after a writing, and how many bytes were written.
 pub fn writes_table(rt: &impl Print, t: Table, buffer: &mut [u8]) -> io::Result<()> {
     let answer = write_table(t, buffer);
-    decimals(rt, buffer)?;
-    match answer {
-        WriteAnswer::Wrote(bytes) => told(rt, printing::WROTE, bytes as u64),
-        WriteAnswer::Refused(c) => refused(rt, c),
-    }
+    numbers(rt, buffer)?;
+    told_or_refused(rt, answer, |wrote| print!(rt; " b {wrote}"))
 }
 
 pub fn admits(rt: &impl Print, t: Table) -> io::Result<()> {
-    match admit_table(t) {
-        Verdict::Faultless => say(rt, printing::ACCEPTED),
-        Verdict::Fault(c) => refused(rt, c),
-    }
+    accepted_or_refused(rt, admit_table(t))
 }
 
 // The thin form: the slot of a state that is lent.
 pub fn lends(rt: &impl Print, s: Arbiter) -> io::Result<()> {
     let done = slot_through_reference(s);
-    let after = done.state;
-    let a = done.answer;
     case(rt, 0)?;
-    say(rt, printing::LOAN)?;
-    state(rt, after)?;
-    match a {
-        SlotAnswer::Granted(stamp, place) => {
-            told(rt, printing::GRANTED, place as u64)?;
-            told(rt, printing::STAMP, stamp.0)
-        }
-        SlotAnswer::Idle(stamp) => {
-            say(rt, printing::IDLE)?;
-            told(rt, printing::STAMP, stamp.0)
-        }
-        SlotAnswer::Refused(c) => refused(rt, c),
-    }
+    print!(rt; " L")?;
+    state(rt, done.after)?;
+    told_or_refused(rt, done.answer, |slot| match slot.granted {
+        Some(place) => print!(rt; " g {place} @ {}", slot.stamp.0),
+        None => print!(rt; " - @ {}", slot.stamp.0),
+    })
 }
 
 pub fn runs(rt: &impl Print, s: Arbiter, log: &mut [u8]) -> io::Result<()> {
     let done = run(s, log);
-    let after = done.state;
-    let a = done.answer;
-    decimals(rt, log)?;
-    state(rt, after)?;
-    match a {
-        RunAnswer::Ran => say(rt, printing::ACCEPTED),
-        RunAnswer::Refused(c) => refused(rt, c),
-    }
-}
-
-// How far a number is from 0. It is counted from -1 downward, so that the lowest of all has a distance too.
-fn distance(x: i64) -> u64 {
-    if x >= 0 {
-        x as u64
-    } else {
-        ((0 - (x + 1)) as u64) + 1
-    }
+    numbers(rt, log)?;
+    state(rt, done.after)?;
+    accepted_or_refused(rt, done.answer)
 }
 
 // A lead below 0 is told as minus its distance from 0.
-fn tell_lead(rt: &impl Print, x: i64) -> io::Result<()> {
-    let size = distance(x);
-    if x < 0 {
-        told(rt, printing::MINUS, size)
-    } else {
-        number(rt, size)
-    }
-}
-
 pub fn leads(rt: &impl Print, s: Arbiter, place: usize, log: &[u8]) -> io::Result<()> {
-    match lead(s, place, log) {
-        LeadAnswer::Lead(x) => tell_lead(rt, x),
-        LeadAnswer::Refused(c) => refused(rt, c),
-    }
+    told_or_refused(rt, lead(s, place, log), |ahead| {
+        if ahead < 0 {
+            print!(rt; " m {}", ahead.unsigned_abs())
+        } else {
+            print!(rt; " {ahead}")
+        }
+    })
 }
 
 pub fn figures_of(rt: &impl Print, s: Arbiter, place: usize) -> io::Result<()> {
-    match figures(s, place, Transfers(1)) {
-        FiguresAnswer::Figures(f) => {
-            let wait = f.wait;
-            let finish = f.finish;
-            told(rt, printing::WAIT, wait.0)?;
-            told(rt, printing::FINISH, finish.0)
-        }
-        FiguresAnswer::Refused(c) => refused(rt, c),
-    }
+    told_or_refused(rt, figures(s, place, Transfers(1)), |figures| {
+        print!(rt; " w {} f {}", figures.wait.0, figures.finish.0)
+    })
 }
 
 pub fn chains(rt: &impl Print, s: Arbiter, place: usize, names: &[u8]) -> io::Result<()> {
-    match chain(s, place, names) {
-        ChainAnswer::Figure(f) => number(rt, f.0),
-        ChainAnswer::Refused(c) => refused(rt, c),
-    }
+    told_or_refused(
+        rt,
+        chain(s, place, names),
+        |figure| print!(rt; " {}", figure.0),
+    )
 }
 
 // What an old state is carried over to; a refused one is all 0.
 pub fn carries(rt: &impl Print, old: OldArbiter) -> io::Result<()> {
     let done = carry(old);
-    let after = done.state;
-    let a = done.answer;
-    state(rt, after)?;
-    match a {
-        StartAnswer::Started => say(rt, printing::ACCEPTED),
-        StartAnswer::Refused(c) => refused(rt, c),
-    }
-}
-
-fn replays_into(
-    rt: &impl Print,
-    t: Table,
-    first: u64,
-    calls: &[u32],
-    answers: &mut [u64],
-) -> io::Result<()> {
-    let done = replay(t, Slots(first), calls, answers);
-    let after = done.state;
-    let a = done.answer;
-    numbers(rt, answers)?;
-    state(rt, after)?;
-    match a {
-        StartAnswer::Started => say(rt, printing::ACCEPTED),
-        StartAnswer::Refused(c) => refused(rt, c),
-    }
+    state(rt, done.after)?;
+    accepted_or_refused(rt, done.answer)
 }
 
 // A start, posts and slots, three numbers to a call and to an answer; an answer that was not written is 7s.
 pub fn replays(rt: &impl Print, t: Table, first: u64, calls: &[u32]) -> io::Result<()> {
     let mut answers = [7u64; 33];
-    say(rt, printing::REPLAY)?;
-    replays_into(rt, t, first, calls, &mut answers)
+    let done = replay(t, Slots(first), calls, &mut answers);
+    print!(rt; " R")?;
+    numbers(rt, &answers)?;
+    state(rt, done.after)?;
+    accepted_or_refused(rt, done.answer)
 }
 
 // The account of a place, and where the line stands: the slot number, and N.
 pub fn looks(rt: &impl Print, s: Arbiter, place: usize) -> io::Result<()> {
-    match account(s, place) {
-        AccountAnswer::Account(a) => {
-            let q = a.backlog;
-            told(rt, printing::CREDITS, a.credit)?;
-            told(rt, printing::BACKLOGS, q.0)?;
-        }
-        AccountAnswer::Refused(c) => refused(rt, c)?,
-    }
-    match standing(s) {
-        StandingAnswer::Stands(at, n) => {
-            told(rt, printing::SLOT, at.0)?;
-            number(rt, n as u64)
-        }
-        StandingAnswer::Refused(c) => refused(rt, c),
-    }
+    told_or_refused(rt, account(s, place), |account| {
+        print!(rt; " c {} q {}", account.credit, account.backlog.0)
+    })?;
+    told_or_refused(rt, standing(s), |stands| {
+        print!(rt; " s {} {}", stands.slot.0, stands.count)
+    })
 }

@@ -6,7 +6,7 @@ use crate::answers::{
 };
 use arbiter::old::OldArbiter;
 use arbiter::state::Arbiter;
-use bench_parts::printing::{case, decimals};
+use bench_parts::printing::{case, numbers};
 use bench_parts::values::{account, needing, one_place, row, t, t_with, two_places};
 use calls::post::post;
 use calls::run::run;
@@ -25,11 +25,7 @@ fn cases_1_and_2(rt: &impl Print) -> io::Result<()> {
 // Clauses 16.3 and 16.4: nine slots one by one, and three.
 fn cases_3_and_4(rt: &impl Print) -> io::Result<()> {
     let mut calls = [0u32; 33];
-    calls[0] = 1;
-    calls[2] = 3;
-    calls[3] = 1;
-    calls[4] = 1;
-    calls[5] = 3;
+    calls[..6].copy_from_slice(&[1, 0, 3, 1, 1, 3]);
     case(rt, 3)?;
     replays(rt, t(), 0, &calls)?;
     case(rt, 4)?;
@@ -101,7 +97,7 @@ fn cases_9_and_10(rt: &impl Print) -> io::Result<()> {
 fn case_11(rt: &impl Print) -> io::Result<()> {
     let begun = Arbiter::start(two_places(5, row(1, 6, 5), row(2, 5, 5)), Slots(0));
     case(rt, 11)?;
-    figures_of(rt, begun.state, 1)
+    figures_of(rt, begun.after, 1)
 }
 
 // Clause 16.12: place 1 always waits, and place 0 not before slot 11.
@@ -109,12 +105,12 @@ fn case_12(rt: &impl Print) -> io::Result<()> {
     let mut early = [170u8; 11];
     let mut late = [170u8; 13];
     let begun = Arbiter::start(two_places(4, row(1, 40, 4), row(1, 4, 18)), Slots(0));
-    let waiting = post(begun.state, 1, Transfers(24));
-    let before = run(waiting.state, &mut early);
-    let posted = post(before.state, 0, Transfers(30));
+    let waiting = post(begun.after, 1, Transfers(24));
+    let before = run(waiting.after, &mut early);
+    let posted = post(before.after, 0, Transfers(30));
     case(rt, 12)?;
-    decimals(rt, &early)?;
-    runs(rt, posted.state, &mut late)
+    numbers(rt, &early)?;
+    runs(rt, posted.after, &mut late)
 }
 
 // Clause 1.4's slot through a reference: granted, idle, 22 and 23.
@@ -180,22 +176,10 @@ fn one_behind_the_other(rt: &impl Print) -> io::Result<()> {
 // T after the first two slots of clause 16.3 as an old unit kept it, with this N.
 fn old_t(n: u64) -> OldArbiter {
     let mut words = [0u64; OldArbiter::WORDS];
-    words[0] = 4;
-    words[1] = n;
-    words[2] = 2;
-    words[3] = 1;
-    words[4] = 8;
-    words[5] = 1;
-    words[6] = 4;
-    words[7] = 2;
-    words[8] = 1;
-    words[9] = 1;
-    words[10] = 4;
-    words[11] = 1;
-    words[12] = 7;
-    words[13] = 6;
-    words[14] = 3;
-    OldArbiter { words: words }
+    words[..3].copy_from_slice(&[4, n, 2]);
+    words[3..9].copy_from_slice(&[1, 8, 1, 4, 2, 1]);
+    words[9..15].copy_from_slice(&[1, 4, 1, 7, 6, 3]);
+    OldArbiter { words }
 }
 
 // Clause 11.4: an old state in the middle of its run, one whose N counts a place of zeros in, and one with N above the old limit.

@@ -25,5 +25,5 @@ use std::io;
 
 fn main(rt: HostRuntime) -> io::Result<()> {
     cases::all(&rt)?;
-    bench_parts::printing::end(&rt)
+    println!(rt; "")
 }

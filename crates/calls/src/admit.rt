@@ -7,11 +7,11 @@ ghost use Rattle.arbiter.specs.ByValue.{given};
 
 use arbiter::admit::admit;
 use arbiter::table::{Table, lay_table};
-use terms::refusals::Verdict;
+use terms::refusals::Cause;
 
-pub fn admit_table(t: Table) -> Verdict
+#[tactic(auto, using(arbiter::proofs::ByValue::right_full, arbiter::proofs::ByValue::room_full), unfolding(terms::specs::Refusals::gate))]
+pub fn admit_table(t: Table) -> Result<(), Cause>
     ensures { verdict_of result ≡ admission_verdict max_places (given t) }
 {
-    let words = lay_table(t);
-    admit(&words)
+    admit(&lay_table(t))
 }

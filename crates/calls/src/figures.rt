@@ -6,13 +6,14 @@ ghost use Rattle.arbiter.specs.ByValue.{held};
 
 use arbiter::state::Arbiter;
 use queries::figures::figures_words;
-use terms::answers::FiguresAnswer;
+use terms::answers::PlaceFigures;
+use terms::refusals::Cause;
 use terms::units::Transfers;
 
 // Refused: 23, 11, 5 (clause 13.11).
-pub fn figures(s: Arbiter, place: usize, j: Transfers) -> FiguresAnswer
+#[tactic(auto, using(arbiter::proofs::ByValue::right_full, arbiter::proofs::ByValue::room_full))]
+pub fn figures(s: Arbiter, place: usize, j: Transfers) -> Result<PlaceFigures, Cause>
     ensures { figures_answer_of result ≡ figures max_places (held s) place j.0 }
 {
-    let words = s.words;
-    figures_words(&words, place, j)
+    figures_words(&s.words, place, j)
 }

@@ -6,12 +6,12 @@ ghost use Rattle.lead_parts.specs.Lead.{lead_query, lead_answer_of};
 
 use arbiter::state::Arbiter;
 use queries::lead::lead_words;
-use terms::answers::LeadAnswer;
+use terms::refusals::Cause;
 
 // Refused: 23, 11, 13 (clause 13.10).
-pub fn lead(s: Arbiter, place: usize, log: &[u8]) -> LeadAnswer
+#[tactic(auto, using(arbiter::proofs::ByValue::right_full, arbiter::proofs::ByValue::room_full))]
+pub fn lead(s: Arbiter, place: usize, log: &[u8]) -> Result<i64, Cause>
     ensures { lead_answer_of result ≡ lead_query max_places (held s) place log.now }
 {
-    let words = s.words;
-    lead_words(&words, place, log)
+    lead_words(&s.words, place, log)
 }

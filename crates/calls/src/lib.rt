@@ -1,5 +1,5 @@
-// The calls by value. Those on a state copy its words once and lend them to the call in place; a refused call hands back the state that was
-// handed in. Those on a table lay it into words, or read it into them, and an old state is laid into them too.
+// The calls by value. Those on a state lend its words to the call on words, where what a call does stands once; a refused call hands back
+// the state that was handed in. Those on a table lay it into words, or read it into them, and an old state is laid into them too.
 #![tactic(auto)]
 
 pub mod admit;

@@ -6,20 +6,22 @@ ghost use Rattle.queries.specs.Look.{account_query, standing, account_answer_of,
 
 use arbiter::state::Arbiter;
 use queries::look::{account_words, standing_words};
-use terms::answers::{AccountAnswer, StandingAnswer};
+use terms::answers::Standing;
+use terms::place::Account;
+use terms::refusals::Cause;
 
 // Refused: 23, 11 (clause 13.13).
-pub fn account(s: Arbiter, place: usize) -> AccountAnswer
+#[tactic(auto, using(arbiter::proofs::ByValue::right_full, arbiter::proofs::ByValue::room_full))]
+pub fn account(s: Arbiter, place: usize) -> Result<Account, Cause>
     ensures { account_answer_of result ≡ account_query max_places (held s) place }
 {
-    let words = s.words;
-    account_words(&words, place)
+    account_words(&s.words, place)
 }
 
 // Refused: 23 (clause 13.13).
-pub fn standing(s: Arbiter) -> StandingAnswer
+#[tactic(auto, using(arbiter::proofs::ByValue::right_full, arbiter::proofs::ByValue::room_full))]
+pub fn standing(s: Arbiter) -> Result<Standing, Cause>
     ensures { standing_answer_of result ≡ standing max_places (held s) }
 {
-    let words = s.words;
-    standing_words(&words)
+    standing_words(&s.words)
 }

@@ -7,22 +7,13 @@ ghost use Rattle.calls.specs.ByValue.{outcome_of};
 
 use arbiter::state::Arbiter;
 use moves::runs::run_words;
-use terms::answers::RunAnswer;
-
-#[derive(Clone, Copy)]
-pub struct RunResult {
-    pub state: Arbiter,
-    pub answer: RunAnswer,
-}
+use terms::answers::Outcome;
 
 // Refused: 23, 13, 22 (clause 13.9). Then no byte is written.
-pub fn run(s: Arbiter, log: &mut [u8]) -> RunResult
+#[tactic(auto, using(arbiter::proofs::ByValue::right_full, arbiter::proofs::ByValue::room_full))]
+pub fn run(mut s: Arbiter, log: &mut [u8]) -> Outcome<Arbiter, ()>
     ensures { outcome_of result log.new ≡ run max_places (held s) log.old }
 {
-    let mut words = s.words;
-    let answer = run_words(&mut words, log);
-    RunResult {
-        state: Arbiter { words: words },
-        answer: answer,
-    }
+    let answer = run_words(&mut s.words, log);
+    Outcome { after: s, answer }
 }

@@ -7,22 +7,13 @@ ghost use Rattle.calls.specs.ByValue.{slot_result_of};
 
 use arbiter::state::Arbiter;
 use moves::slots::slot_words;
-use terms::answers::SlotAnswer;
-
-#[derive(Clone, Copy)]
-pub struct SlotResult {
-    pub state: Arbiter,
-    pub answer: SlotAnswer,
-}
+use terms::answers::{Outcome, Slot};
 
 // Refused: 23, 22 (clause 13.8).
-pub fn slot(s: Arbiter) -> SlotResult
+#[tactic(auto, using(arbiter::proofs::ByValue::right_full, arbiter::proofs::ByValue::room_full))]
+pub fn slot(mut s: Arbiter) -> Outcome<Arbiter, Slot>
     ensures { slot_result_of result ≡ called max_places (held s) slot }
 {
-    let mut words = s.words;
-    let answer = slot_words(&mut words);
-    SlotResult {
-        state: Arbiter { words: words },
-        answer: answer,
-    }
+    let answer = slot_words(&mut s.words);
+    Outcome { after: s, answer }
 }

@@ -6,13 +6,13 @@ ghost use Rattle.table_bytes.specs.Writing.{write_table, write_answer_of};
 
 use arbiter::table::{Table, lay_table};
 use queries::write::admit_and_write;
-use terms::answers::WriteAnswer;
+use terms::refusals::Cause;
 
 // The table's bytes from the buffer's start on; the bytes beyond are left as they were, and so are all of them if it is refused. Refused:
 // 1 to 7, 17, 14 (clause 13.4).
-pub fn write_table(t: Table, buffer: &mut [u8]) -> WriteAnswer
+#[tactic(auto, using(arbiter::proofs::ByValue::right_full, arbiter::proofs::ByValue::room_full))]
+pub fn write_table(t: Table, buffer: &mut [u8]) -> Result<usize, Cause>
     ensures { record { answer = write_answer_of result; buffer = buffer.new } ≡ write_table max_places (given t) buffer.old }
 {
-    let words = lay_table(t);
-    admit_and_write(&words, buffer)
+    admit_and_write(&lay_table(t), buffer)
 }

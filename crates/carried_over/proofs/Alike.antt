@@ -80,7 +80,7 @@ module _ (old new : ℕ) (o : OldState) (many : length o.places ≡ old) (larger
   accepted_sound e = cases (sound old (as_state o)) (λ q. q) (λ q. not_refused (rw q at e))
     where
       not_refused : {X : Type 0} → refused (refusal 23) ≡ accepted → X
-      not_refused f = let z : ◌≡◌ {A = ℕ} 0 1 = cc in absurd (omega arith)
+      not_refused f = absurd cc
 
   both_kept : sound old (as_state o) ≡ true → Kept old (as_state o)
   both_kept ok = record { shaped = shaped; few = few_places old (new - old) (as_state o) shaped ok }

@@ -14,7 +14,7 @@ use Rattle.terms.specs.Longer.{longer}
 use Rattle.carrying.specs.Carry.{OldState, as_state}
 use Rattle.layout.specs.Words.{word_count, room_of_words, words_state, state_of, put_slot_number, put_row, put_account, with_table}
 use Rattle.layout.proofs.RoundTrip.{right}
-use Rattle.layout.proofs.Stores.{same_room, put_slot, put_slot_length, put_row_lem, put_row_length, put_account_lem, put_length}
+use Rattle.layout.proofs.Stores.{put_slot, put_slot_length, put_row_lem, put_row_length, put_account_lem, put_length}
 use Rattle.layout.proofs.Laid.{state_with_room}
 use Rattle.carrying.specs.OldWords.{old_room_of, old_words_state, old_state_of}
 use Rattle.carrying.proofs.Fits.{Fit, old_shaped}
@@ -73,19 +73,16 @@ module _ (room : ℕ) (o : OldState) where
         ∙ rw (e, take_all limit (as_state o).table.requestors (omega (arith, shape.rows)), take_all limit (as_state o).accounts (omega (arith, shape.accounts)), drop_replicate no_requestor limit room, drop_replicate no_account limit room)
 
 -- what the loop finds, once the head is laid
-pub begins : (old-most most : ℕ) (old entry headed words : List ℕ) (d n at : ℕ) → Fit old-most most old entry → length headed ≡ length entry → length words ≡ length headed
+pub begins : (old-most most : ℕ) (old entry headed words : List ℕ) (d n at : ℕ) → Fit old-most most old entry → length headed ≡ length entry
     → d ≡ get_or old 0 0 → n ≡ get_or old 1 0 → at ≡ get_or old 2 0 → state_of headed ≡ with_table (no_state (room_of_words entry)) (table_of (room_of_words entry) d n []) → words ≡ put_slot_number headed at
-    → (0 ≤ old_room_of old) × (old_room_of old ≤ room_of_words words) × Carrying (room_of_words words) (old_state_of old) words 0
+    → Carrying (room_of_words entry) (old_state_of old) words 0
 unfolding old_words_state
-begins old-most most old entry headed words d n at f headed-long words_long first second third e g =
-    let room : room_of_words words ≡ room_of_words entry = same_room entry words (words_long ∙ headed-long) in
-    let long : length headed ≡ word_count (room_of_words words) = headed-long ∙ (right most entry f.right).long ∙ ap word_count (sym room) in
-    (omega arith, omega (arith, f.enough), carrying_none (room_of_words words) (old_state_of old) entry headed words d n at room long first second third e g)
+begins old-most most old entry headed words d n at f long first second third e g =
+    carrying_none (room_of_words entry) (old_state_of old) entry headed words d n at refl (long ∙ (right most entry f.right).long) first second third e g
 
 -- and what it leaves
-pub ends : (old entry begun words : List ℕ) (p : ℕ) → length begun ≡ length entry
-    → (p ≤ old_room_of old) × (old_room_of old ≤ room_of_words begun) × Carrying (room_of_words begun) (old_state_of old) words p → old_room_of old ≤ p
+pub ends : (old-most most : ℕ) (old entry words : List ℕ) (p : ℕ) → Fit old-most most old entry → p ≤ old_room_of old
+    → Carrying (room_of_words entry) (old_state_of old) words p → old_room_of old ≤ p
     → state_of words ≡ longer (room_of_words entry - old_room_of old) (as_state (old_state_of old))
-ends old entry begun words p long (most, few, v) all =
-    let room : room_of_words begun ≡ room_of_words entry = same_room entry begun long in
-    carrying_end (room_of_words begun) (old_state_of old) (old_room_of old) (old_shaped (old_room_of old) old) few words p v (omega arith) ∙ rw room
+ends old-most most old entry words p f most_p v all =
+    carrying_end (room_of_words entry) (old_state_of old) (old_room_of old) (old_shaped (old_room_of old) old) f.enough words p v (omega arith)

@@ -10,6 +10,7 @@ use arbiter::state::Arbiter;
 use terms::place::{Account, Requestor};
 use terms::units::{Slots, Transfers};
 
+#[tactic(auto, unfolding(crate::specs::OldWords::old_room_of))]
 pub fn old_room_of(words: &[u64]) -> usize
     requires { 3 ≤ length words.now }
     ensures { result ≡ old_room_of words.now }
@@ -18,6 +19,7 @@ pub fn old_room_of(words: &[u64]) -> usize
 }
 
 // As many words as an old state has that has room for 1 to the old largest N.
+#[tactic(auto, unfolding(crate::specs::OldWords::old_right_length, crate::specs::OldWords::old_room_of))]
 pub fn old_length_is_right(words: &[u64]) -> bool
     ensures { result ≡ old_right_length old_places words.now }
 {
@@ -25,13 +27,9 @@ pub fn old_length_is_right(words: &[u64]) -> bool
         return false;
     }
     let room = old_room_of(words);
-    if words.len() != OldArbiter::HEAD + OldArbiter::PLACE * room {
-        return false;
-    }
-    if room < 1 {
-        return false;
-    }
-    room <= Arbiter::OLD_PLACES
+    words.len() == OldArbiter::HEAD + OldArbiter::PLACE * room
+        && 1 <= room
+        && room <= Arbiter::OLD_PLACES
 }
 
 pub fn old_denominator(words: &[u64]) -> u64

@@ -1,10 +1,8 @@
 -- Proves Claims. Assumes nothing.
-use Rattle.std.proofs.Common.{◌≡◌, refl, ap, sym, ◌∙◌, List, [], ◌∷◌, ◌++◌, ◌⊎◌, inl, inr, ℕ, zero, suc, ◌+◌, ◌<◌, zero-add, arith, length, get_or, length-take}
-use mathlib.Core.Option.{Option, none, some}
+use Rattle.std.proofs.Common.{◌≡◌, refl, ap, sym, ◌∙◌, List, [], ◌∷◌, ◌++◌, ◌⊎◌, inl, inr, ℕ, zero, suc, ◌+◌, ◌<◌, zero-add, arith, length, get_or, length-take, Option, None, Some}
 use native.Mathlib.Nat.{sub-zero}
 use Rattle.lists.specs.Sums.{every}
 use Rattle.lists.proofs.Tests.{cases}
-use Rattle.terms.specs.declared.refusals.Named.TheVariants as named
 use Rattle.terms.specs.declared.refusals.Refusal.{Refusal}
 use Rattle.terms.specs.declared.place.Requestor.{Requestor}
 use Rattle.terms.specs.Figures.{finish}
@@ -59,7 +57,7 @@ module _ (limit : ℕ) (s : State) (shape : Shaped limit s) (p : ℕ) (names : L
   lowest_circle q there ok e =
       let f = each_place_fault (circle_verdict s.table.count names) 0 (requestors_of s.table) (refusal_at 16 q) e in
       let (back, same) = circle_fault s.table.count names f.at (requestor_at f.at (requestors_of s.table)) (refusal_at 16 q) (rw (zero-add f.at) at f.found) in
-      let places : named.Place f.at ≡ named.Place q = ap (λ r. r.place) same in
+      let places : Some f.at ≡ Some q = ap (λ r. r.place) same in
       let at : f.at ≡ q = cc in
       record {
         place = omega (arith, f.inside, rows_there there);
@@ -101,7 +99,7 @@ chain_is_whole limit s shape p names figure e =
     let rows = rows_there limit s shape p names f.place in
     let never = no_circle s.table names rows ok clear in
     let over = ends names s.table.count (followed_below s.table names rows ok) never p (place_open limit s p f.place).1 in
-    record { no_circle = never; ends = over; whole = λ most h. chain_whole names s.table.count most (some p) h over }
+    record { no_circle = never; ends = over; whole = λ most h. chain_whole names s.table.count most (Some p) h over }
 
 -- names that agree below n, and pass 11
 module _ (t : Table) (names others : List ℕ) (agree : (q : ℕ) → q < t.count → get_or names q nobody ≡ get_or others q nobody) where
@@ -120,8 +118,8 @@ module _ (t : Table) (names others : List ℕ) (agree : (q : ℕ) → q < t.coun
     same_chain : (most : ℕ) (o : Option ℕ) → BelowIf t.count o → chain_to names most o ≡ chain_to others most o
     unfolding chain_to
     same_chain zero o b = refl
-    same_chain (suc most) none b = refl
-    same_chain (suc most) (some q) b = rw (← same_follows q b) (ap (λ links. links ++ (q ∷ [])) (same_chain most (follows names q) (followed_below t names rows ok q b)))
+    same_chain (suc most) None b = refl
+    same_chain (suc most) (Some q) b = rw (← same_follows q b) (ap (λ links. links ++ (q ∷ [])) (same_chain most (follows names q) (followed_below t names rows ok q b)))
 
     same_circles : circles_verdict t names ≡ circles_verdict t others
     unfolding circle_verdict
@@ -143,7 +141,7 @@ names_past_unread limit s shape p names others agree = place (place_verdict limi
     circles faultless e there ok =
         let rows = rows_there limit s shape p names there in
         let also = sym (same_circles s.table names others agree rows ok) ∙ e in
-        let links = same_chain s.table names others agree rows ok s.table.count (some p) (place_open limit s p there).1 in
+        let links = same_chain s.table names others agree rows ok s.table.count (Some p) (place_open limit s p there).1 in
         chain_figured limit s p names _ there (rw (ok, e)) refl
         ∙ sym (chain_figured limit s p others (chain_figure s.table (chain_of s.table names p)) there (rw (sym (same_names s.table names others agree) ∙ ok, also)) (ap (chain_figure s.table) links))
 

@@ -1,5 +1,4 @@
--- A name and its check; a check over the whole table; the walks that the calls make, step by step; and following without a bound.
-pub mod Names
+-- The checks over the whole table; the walks that the calls make, step by step; and following without a bound.
 pub mod Tables
 pub mod Walks
 pub mod Repeats

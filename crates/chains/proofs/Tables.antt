@@ -1,38 +1,69 @@
--- A check place by place over the table that words are, at place p: what its next step is. Assumes nothing.
-use Rattle.std.proofs.Common.{◌≡◌, refl, sym, ◌∙◌, List, ℕ, ◌+◌, ◌≤◌, ◌<◌, arith, length, drop, get_or}
-use Rattle.terms.specs.declared.refusals.Refusal.{Refusal}
-use Rattle.terms.specs.declared.place.Requestor.{Requestor}
-use Rattle.terms.specs.Refusals.{Verdict, faultless, fault}
-use Rattle.terms.specs.Table.{no_requestor, requestors_of, each_place}
-use Rattle.terms.proofs.Checks.{fair}
-use Rattle.terms.proofs.Places.{each_pass, each_stop, each_end}
-use Rattle.terms.proofs.Sound.{places_length}
-use Rattle.layout.specs.Words.{room_of_words}
-use Rattle.admission.specs.Checked.{table_in, rows_in, Checked}
+-- Checks 11 and 16 place by place over the table that words are: what the next step at place p is. Assumes nothing.
+use Rattle.std.proofs.Common.{◌≡◌, refl, sym, true, false, not, List, ℕ, ◌+◌, ◌≤◌, ◌<◌, eqb, length}
+use Rattle.lists.specs.Sums.{every}
+use Rattle.terms.specs.Refusals.{faultless, fault, refusal, refusal_at, gate}
+use Rattle.terms.specs.Table.{Table, requestors_of}
+use Rattle.terms.specs.State.{place_verdict}
+use Rattle.terms.specs.Chain.{follows, present, chain_to, name_verdict, circle_verdict, names_verdict, circles_verdict, following_verdict}
+use Rattle.terms.proofs.Checks.{gate_passed, then_open, fair}
+use Rattle.terms.proofs.Sound.{place_open, places_length}
+use Rattle.layout.specs.Words.{room_of_words, right_length, state_of}
+use Rattle.admission.specs.Checked.{table_in, Checked}
 use Rattle.admission.proofs.Rows.{rows_length}
+use Rattle.admission.proofs.Walks.{Walked, walk_pass, walk_break, walk_end}
+use Rattle.soundness.proofs.Places.{sound_checked}
 
 -- as many requestors as places
 pub places_there : (most : ℕ) (words : List ℕ) → Checked most words → length (requestors_of (table_in words)) ≡ (table_in words).count
 places_there most words k = places_length (room_of_words words) (table_in words) (rows_length words) (fair (room_of_words words) (table_in words) k.passes)
 
-module _ (check : ℕ → Requestor → Verdict) (words : List ℕ) where
-  -- what is left to check comes to the same as all of it
-  abbrev pub Scanned : ℕ → Type 0
-  Scanned p = each_place check 0 (requestors_of (table_in words)) ≡ each_place check p (drop p (requestors_of (table_in words)))
+-- a place that 23 and 11 let pass, and names that 11 lets pass
+module _ (most : ℕ) (words : List ℕ) (p : ℕ) (e : faultless ≡ place_verdict (room_of_words words) (state_of words) p) where
+  pub place_checked : right_length most words ≡ true → Checked most words
+  place_checked ok = sound_checked most words ok (place_open _ _ _ (sym e)).0
 
-  pub scanned_none : Scanned 0
-  scanned_none = refl
+  pub place_below : p < (table_in words).count
+  place_below = (place_open _ _ _ (sym e)).1
 
-  module _ (most p : ℕ) (k : Checked most words) (v : Scanned p) where
-    rows_cover : (table_in words).count ≤ length (rows_in words)
-    rows_cover = omega (arith, rows_length words, (fair (room_of_words words) (table_in words) k.passes).count_most)
+pub names_passed : (t : Table) (names : List ℕ) → faultless ≡ following_verdict t names → names_verdict t names ≡ faultless
+unfolding following_verdict
+names_passed t names e = (then_open _ _ (sym e)).0
 
-    pub scanned_end : (table_in words).count ≤ p → faultless ≡ each_place check 0 (requestors_of (table_in words))
-    scanned_end h = sym (v ∙ each_end check (rows_in words) (table_in words).count p h)
+module _ (words names : List ℕ) where
+  abbrev n : ℕ
+  n = (table_in words).count
 
-    module _ (h : p < (table_in words).count) where
-      pub scanned_more : ((r : Requestor) → check p r ≡ faultless) → Scanned (p + 1)
-      scanned_more e = v ∙ each_pass check (rows_in words) (table_in words).count p rows_cover h (e (get_or (rows_in words) p no_requestor))
+  -- what is left to check of the names, and of the circles, comes to the same as all of it
+  abbrev pub NamesWalked : (p : ℕ) → Type 0
+  NamesWalked p = Walked (name_verdict n names) words p
 
-      pub scanned_stop : (why : Refusal) → ((r : Requestor) → check p r ≡ fault why) → fault why ≡ each_place check 0 (requestors_of (table_in words))
-      scanned_stop why e = sym (v ∙ each_stop check (rows_in words) (table_in words).count p rows_cover h why (e (get_or (rows_in words) p no_requestor)))
+  abbrev pub CirclesWalked : (p : ℕ) → Type 0
+  CirclesWalked p = Walked (circle_verdict n names) words p
+
+  module _ (most p : ℕ) (k : Checked most words) where
+    few : n ≤ room_of_words words
+    few = (fair (room_of_words words) (table_in words) k.passes).count_most
+
+    module _ (v : NamesWalked p) where
+      pub names_pass : p < n → present n (follows names p) ≡ true → NamesWalked (p + 1)
+      unfolding name_verdict
+      names_pass h e = walk_pass _ words p v few h refl (gate_passed _ _ _ e)
+
+      pub names_stop : p < n → present n (follows names p) ≡ false → fault (refusal 11) ≡ names_verdict (table_in words) names
+      unfolding name_verdict gate
+      names_stop h e = walk_break (name_verdict n names) words p v few h (rw e) refl
+
+      pub names_end : n ≤ p → faultless ≡ names_verdict (table_in words) names
+      names_end h = walk_end _ words p v h
+
+    module _ (v : CirclesWalked p) where
+      pub circles_pass : p < n → every (λ q. not (eqb q p)) (chain_to names n (follows names p)) ≡ true → CirclesWalked (p + 1)
+      unfolding circle_verdict
+      circles_pass h e = walk_pass _ words p v few h refl (gate_passed _ _ _ e)
+
+      pub circles_stop : p < n → every (λ q. not (eqb q p)) (chain_to names n (follows names p)) ≡ false → fault (refusal_at 16 p) ≡ circles_verdict (table_in words) names
+      unfolding circle_verdict gate
+      circles_stop h e = walk_break (circle_verdict n names) words p v few h (rw e) refl
+
+      pub circles_end : n ≤ p → faultless ≡ circles_verdict (table_in words) names
+      circles_end h = walk_end _ words p v h

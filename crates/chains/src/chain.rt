@@ -6,12 +6,11 @@ ghost use Rattle.terms.specs.Chain.{chain_of, chain_figure, names_verdict, chain
 ghost use Rattle.layout.specs.Words.{room_of_words, right_length, state_of};
 ghost use Rattle.admission.specs.Checked.{table_in, Checked};
 
-use crate::following::{NOBODY, check_following, name_of};
+use crate::following::{check_following, follows};
 use admission::figures::finish;
 use layout::words::count;
 use soundness::place::check_place;
-use terms::answers::ChainAnswer;
-use terms::refusals::Verdict;
+use terms::refusals::Cause;
 use terms::units::{Slots, Transfers};
 
 // The finish figures for one transfer, summed from place p on back to the first link. No chain has more links than the table has places, and
@@ -20,37 +19,25 @@ fn chain_figure(words: &[u64], p: usize, names: &[u8]) -> Slots
     requires { Checked max_places words.now × (p < (table_in words.now).count) × (names_verdict (table_in words.now) names.now ≡ faultless) }
     ensures { result.0 ≡ chain_figure (table_in words.now) (chain_of (table_in words.now) names.now p) }
 {
-    let n = count(words);
     let mut sum: u64 = 0;
     let mut at = p;
-    let mut links: usize = 0;
-    while links < n {
-        let own = finish(words, at, Transfers(1));
-        sum = sum + own.0;
-        let q = name_of(names, at);
-        if q == NOBODY {
-            return Slots(sum);
+    for _link in 0..count(words) {
+        sum += finish(words, at, Transfers(1)).0;
+        match follows(names, at) {
+            None => return Slots(sum),
+            Some(q) => at = q,
         }
-        at = q;
-        links = links + 1;
     }
     Slots(sum)
 }
 
 // Refused: 23, 11, 16.
-pub fn chain_words(words: &[u64], place: usize, names: &[u8]) -> ChainAnswer
+#[tactic(auto, using(crate::proofs::Tables::place_checked, crate::proofs::Tables::place_below, crate::proofs::Tables::names_passed), unfolding(terms::specs::Chain::chain, terms::specs::Chain::chain_verdict, terms::specs::Refusals::then))]
+pub fn chain_words(words: &[u64], place: usize, names: &[u8]) -> Result<Slots, Cause>
     requires { right_length max_places words.now ≡ true }
     ensures { chain_answer_of result ≡ chain (room_of_words words.now) (state_of words.now) place names.now }
 {
-    let there = check_place(words, place);
-    match there {
-        Verdict::Fault(c) => ChainAnswer::Refused(c),
-        Verdict::Faultless => {
-            let following = check_following(words, names);
-            match following {
-                Verdict::Fault(c) => ChainAnswer::Refused(c),
-                Verdict::Faultless => ChainAnswer::Figure(chain_figure(words, place, names)),
-            }
-        }
-    }
+    check_place(words, place)?;
+    check_following(words, names)?;
+    Ok(chain_figure(words, place, names))
 }

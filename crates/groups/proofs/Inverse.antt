@@ -3,9 +3,7 @@ use Rattle.std.proofs.Common.{◌≡◌, refl, ap, sym, true, false, List, [], �
 use borrow.Author.Tests.{eqb-false}
 use Rattle.lists.specs.Overwriting.{written_over}
 use Rattle.lists.proofs.Tests.{cases}
-use Rattle.groups.specs.declared.reading.Reading.{Reading}
-use Rattle.groups.specs.declared.reading.Reading.TheVariants.{Number, Ended, Malformed}
-use Rattle.groups.specs.Groups.{max_number, max_later, last_group, combined, later_groups, number_of, groups_of, number_bytes}
+use Rattle.groups.specs.Groups.{Reading, Number, Ended, Malformed, max_number, max_later, last_group, combined, later_groups, number_of, groups_of, number_bytes}
 use Rattle.groups.specs.Inverse.{Bytes, FiveBytes, NumberReadsBack, OneForm}
 use Rattle.groups.proofs.Writings.{room_of_words, number_few}
 

@@ -1,9 +1,10 @@
 -- A number written group by group: what has been written, and what is left of the number. Assumes nothing.
-use Rattle.std.proofs.Common.{◌≡◌, refl, ap, sym, ◌∙◌, Bool, true, false, List, [], ◌∷◌, ◌++◌, append_assoc, ℕ, zero, suc, ◌+◌, ◌*◌, ◌/◌, ◌%◌, ◌≤◌, ◌<◌, arith, lt-ltb, le-ltb, le-leb, ltb, length, set, length-append}
+use Rattle.std.proofs.Common.{◌≡◌, refl, ap, sym, ◌∙◌, Bool, true, false, List, [], ◌∷◌, ◌++◌, ℕ, zero, suc, ◌+◌, ◌-◌, ◌*◌, ◌/◌, ◌%◌, ◌≤◌, ◌<◌, add-one, arith, lt-ltb, le-ltb, le-leb, ltb-true, ltb-false, ltb, length, get_or, take, drop, set, take_all, drop-cons, length-drop, None, Some}
 use borrow.Author.Tests.{lt-leb}
 use Rattle.lists.specs.Choices.{pick}
 use Rattle.lists.specs.Overwriting.{written_over}
-use Rattle.lists.proofs.Overwriting.{stored_behind, length_over}
+use Rattle.lists.proofs.Overwriting.{overwrite_more}
+use Rattle.lists.proofs.Tests.{cases}
 use Rattle.groups.specs.Groups.{max_number, max_later, groups_of, number_bytes, Filled, number_written}
 
 -- one more than the largest number that a group and `left` more can hold
@@ -11,43 +12,16 @@ unfoldable pub room_of_words : ℕ → ℕ
 room_of_words zero = 128
 room_of_words (suc left) = 128 * room_of_words left
 
--- some groups of x are done, and this is the rest of the number, which the groups that may still come can hold
-pub record Rest (x : ℕ) (done : List ℕ) (rest : ℕ) : Type 0 where
-  pub left : ℕ
-  pub all : number_bytes x ≡ done ++ groups_of left rest
-  pub few : length done + left ≡ max_later
-  pub room : rest < room_of_words left
-
-pub rest_whole : (x : ℕ) → x ≤ max_number → Rest x [] x
-unfolding number_bytes room_of_words
-rest_whole x h = record { left = max_later; all = refl; few = refl; room = omega arith }
-
 -- a group that is not the last
 more_groups : (left x : ℕ) → 128 ≤ x → groups_of (suc left) x ≡ (x % 128 + 128) ∷ groups_of left (x / 128)
 unfolding groups_of
 more_groups left x h = rw (le-ltb x 128 h)
-
-rest_next : {x rest : ℕ} {done : List ℕ} → Rest x done rest → 128 ≤ rest → Rest x (done ++ ((rest % 128 + 128) ∷ [])) (rest / 128)
-unfolding room_of_words
-rest_next {x} {rest} {done} r h = by_left r.left r.all r.few r.room where
-  by_left : (left : ℕ) → number_bytes x ≡ done ++ groups_of left rest → length done + left ≡ max_later → rest < room_of_words left
-      → Rest x (done ++ ((rest % 128 + 128) ∷ [])) (rest / 128)
-  by_left zero all few room = absurd (omega arith)
-  by_left (suc left) all few room = record {
-    left = left;
-    all = all ∙ ap (λ (l : List ℕ). done ++ l) (more_groups left rest h) ∙ sym (append_assoc done ((rest % 128 + 128) ∷ []) (groups_of left (rest / 128)));
-    few = simp length-append (omega arith);
-    room = omega arith;
-  }
 
 -- the last group
 one_group : (left x : ℕ) → x < 128 → groups_of left x ≡ x ∷ []
 unfolding groups_of
 one_group zero x h = refl
 one_group (suc left) x h = rw (lt-ltb x 128 h)
-
-rest_last : {x rest : ℕ} {done : List ℕ} → Rest x done rest → rest < 128 → number_bytes x ≡ done ++ (rest ∷ [])
-rest_last {x} {rest} {done} r h = r.all ∙ ap (λ (l : List ℕ). done ++ l) (one_group r.left rest h)
 
 -- at least one group, and at most as many more as may come
 groups_few : (left x : ℕ) → (1 ≤ length (groups_of left x)) × (length (groups_of left x) ≤ suc left)
@@ -59,75 +33,103 @@ groups_few (suc left) x = by_size (groups_few left (x / 128)) (ltb x 128) where
   by_size h true = (omega arith, omega arith)
   by_size h false = (omega arith, omega arith)
 
--- a number takes at most five bytes
+-- a number takes a byte at least, and at most five
+pub number_some : (x : ℕ) → 1 ≤ length (number_bytes x)
+unfolding number_bytes
+number_some x = (groups_few max_later x).0
+
 pub number_few : (x : ℕ) → length (number_bytes x) ≤ suc max_later
 unfolding number_bytes
 number_few x = (groups_few max_later x).1
 
--- ---- counted
+-- behind k groups of the number x, its rest stands in the groups that may still come
+pub record Ahead (x k rest : ℕ) : Type 0 where
+  pub groups : drop k (number_bytes x) ≡ groups_of (max_later - k) rest
+  pub room : rest < room_of_words (max_later - k)
 
--- k groups are done
-pub record Counted (x k rest : ℕ) : Type 0 where
-  pub done : List ℕ
-  pub groups : Rest x done rest
-  pub count : length done ≡ k
+pub ahead_whole : (x : ℕ) → x ≤ max_number → Ahead x 0 x
+unfolding number_bytes room_of_words
+ahead_whole x h = record { groups = refl; room = omega arith }
 
-pub counted_whole : (x : ℕ) → x ≤ max_number → Counted x 0 x
-counted_whole x h = record { done = []; groups = rest_whole x h; count = refl }
+-- the first of some groups, and those behind it
+first_of : (xs : List ℕ) (k x : ℕ) (rest : List ℕ) → k < length xs → drop k xs ≡ x ∷ rest → (get_or xs k 0 ≡ x) × (drop (k + 1) xs ≡ rest)
+first_of xs k x rest h e = let d = drop-cons xs k 0 h in rw add-one (cc, cc)
 
-pub counted_few : {x k rest : ℕ} → Counted x k rest → k ≤ max_later
-counted_few r = omega (arith, r.count, r.groups.few)
+-- a group that is not the last one, and one that is
+record Lower (left x : ℕ) (xs : List ℕ) : Type 0 where
+  large : 128 ≤ x
+  groups : xs ≡ (x % 128 + 128) ∷ groups_of (left - 1) (x / 128)
+  room : x / 128 < room_of_words (left - 1)
 
-pub counted_next : {x k rest : ℕ} → Counted x k rest → 128 ≤ rest → Counted x (k + 1) (rest / 128)
-counted_next {x} {k} {rest} r h = record {
-  done = r.done ++ ((rest % 128 + 128) ∷ []);
-  groups = rest_next r.groups h;
-  count = simp length-append (omega (arith, r.count));
-}
+lower : (left x : ℕ) → x < room_of_words left → 1 < length (groups_of left x) → Lower left x (groups_of left x)
+unfolding groups_of room_of_words
+lower zero x room h = absurd (omega arith)
+lower (suc left) x room h = cases (ltb x 128)
+    (λ small. absurd (one small (rw small at h)))
+    (λ large. record { large = ltb-false x 128 large; groups = rw (large, fewer); room = rw fewer (omega arith) })
+  where
+    fewer : suc left - 1 ≡ left
+    fewer = omega arith
 
-pub counted_all : {x k rest : ℕ} → Counted x k rest → rest < 128 → k + 1 ≡ length (number_bytes x)
-counted_all r h = rw (rest_last r.groups h) (simp length-append (omega (arith, r.count)))
+    one : ltb x 128 ≡ true → 1 < 1 → ⊥
+    one small l = omega arith
+
+highest : (left x : ℕ) → x < room_of_words left → length (groups_of left x) ≡ 1 → (x < 128) × (groups_of left x ≡ x ∷ [])
+unfolding groups_of room_of_words
+highest zero x room h = (room, refl)
+highest (suc left) x room h = cases (ltb x 128)
+    (λ small. rw small (ltb-true x 128 small, refl))
+    (λ large. absurd (omega (arith, rw large at h, (groups_few left (x / 128)).0)))
+
+module _ {x k rest : ℕ} (a : Ahead x k rest) where
+  pub ahead_next : k + 1 < length (number_bytes x) → (get_or (number_bytes x) k 0 ≡ rest % 128 + 128) × Ahead x (k + 1) (rest / 128)
+  ahead_next h =
+      let l = lower (max_later - k) rest a.room (omega (arith, ap length a.groups, length-drop k (number_bytes x))) in
+      let f = first_of (number_bytes x) k (rest % 128 + 128) (groups_of (max_later - k - 1) (rest / 128)) (omega arith) (a.groups ∙ l.groups) in
+      let fewer : max_later - k - 1 ≡ max_later - (k + 1) = omega arith in
+      (f.0, record { groups = rw (← fewer) f.1; room = rw (← fewer) l.room })
+
+  pub ahead_last : k + 1 ≡ length (number_bytes x) → (rest < 128) × (get_or (number_bytes x) k 0 ≡ rest)
+  ahead_last h =
+      let l = highest (max_later - k) rest a.room (omega (arith, ap length a.groups, length-drop k (number_bytes x))) in
+      (l.0, (first_of (number_bytes x) k rest [] (omega arith) (a.groups ∙ l.1)).0)
 
 -- ---- in a buffer that has room
 
-pub record Put (x : ℕ) (old buffer : List ℕ) (k rest : ℕ) : Type 0 where
-  pub counted : Counted x k rest
-  pub same : buffer ≡ written_over counted.done old
+-- the first k groups stand in front of what the buffer held, and this is the rest of the number
+pub record Put (x : ℕ) (old : List ℕ) (k rest : ℕ) (buffer : List ℕ) : Type 0 where
+  pub ahead : Ahead x k rest
+  pub same : buffer ≡ take k (number_bytes x) ++ drop k old
 
-pub put_none : (x : ℕ) (old : List ℕ) → x ≤ max_number → Put x old old 0 x
-unfolding counted_whole written_over
-put_none x old h = record { counted = counted_whole x h; same = refl }
+pub put_none : (x : ℕ) (old : List ℕ) → x ≤ max_number → Put x old 0 x old
+put_none x old h = record { ahead = ahead_whole x h; same = refl }
 
-module _ {x k rest : ℕ} {old buffer : List ℕ} (room : length (number_bytes x) ≤ length old) (p : Put x old buffer k rest) where
-  whole : length (number_bytes x) ≡ length p.counted.done + length (groups_of p.counted.groups.left rest)
-  whole = ap length p.counted.groups.all ∙ length-append p.counted.done (groups_of p.counted.groups.left rest)
+module _ {x k rest : ℕ} {old buffer : List ℕ} (room : length (number_bytes x) ≤ length old) (p : Put x old k rest buffer) where
+  put_byte : (y : ℕ) → k < length (number_bytes x) → get_or (number_bytes x) k 0 ≡ y → set buffer k y ≡ take (k + 1) (number_bytes x) ++ drop (k + 1) old
+  put_byte y h e = overwrite_more 0 (number_bytes x) old buffer k y h (omega arith) p.same (sym e)
 
-  inside : k < length (number_bytes x)
-  inside = omega (arith, whole, (groups_few p.counted.groups.left rest).0, p.counted.count)
+  pub put_next : k + 1 < length (number_bytes x) → Put x old (k + 1) (rest / 128) (set buffer k (rest % 128 + 128))
+  put_next h =
+      let n = ahead_next p.ahead h in
+      record { ahead = n.1; same = put_byte (rest % 128 + 128) (omega arith) n.0 }
 
-  pub put_length : length buffer ≡ length old
-  put_length = rw p.same (length_over p.counted.done old (omega (arith, whole)))
+  module _ (len : ℕ) (e : len ≡ length (number_bytes x)) (f : k ≡ len - 1) where
+    last : k + 1 ≡ length (number_bytes x)
+    last = omega (arith, number_some x)
 
-  pub put_inside : k < length buffer
-  put_inside = omega (arith, inside, put_length)
+    -- the last group is a byte, and with it the writing is whole
+    pub put_last : rest < 128
+    put_last = (ahead_last p.ahead last).0
 
-  put_byte : (y : ℕ) → set buffer k y ≡ written_over (p.counted.done ++ (y ∷ [])) old
-  put_byte y = rw p.same (stored_behind p.counted.done old (y ∷ []) k p.counted.count (omega (arith, inside)))
+    pub put_whole : ◌≡◌ {A = Filled} (record { wrote = Some len; buffer = set buffer k rest }) (number_written x old)
+    unfolding number_written written_over
+    put_whole =
+        rw (le-leb (length (number_bytes x)) (length old) room, e, put_byte rest (omega (arith, last)) (ahead_last p.ahead last).1, last, take_all (length (number_bytes x)) (number_bytes x) (omega arith))
 
-  pub put_next : (y : ℕ) → 128 ≤ rest → y ≡ rest % 128 + 128 → Put x old (set buffer k y) (k + 1) (rest / 128)
-  unfolding counted_next
-  put_next y h e = record { counted = counted_next p.counted h; same = rw e (put_byte (rest % 128 + 128)) }
-
-  pub put_last : (y : ℕ) → rest < 128 → y ≡ rest → set buffer k y ≡ written_over (number_bytes x) old
-  put_last y h e = rw (e, rest_last p.counted.groups h) (put_byte rest)
-
--- ---- the whole writing
-
-pub written_short : (x k : ℕ) (old : List ℕ) → k ≡ length (number_bytes x) → length old < k → ◌≡◌ {A = Filled} (record { wrote = 0; buffer = old }) (number_written x old)
+-- a buffer that has none
+pub put_short : (x : ℕ) (old : List ℕ) → length old < length (number_bytes x) → ◌≡◌ {A = Filled} (record { wrote = None; buffer = old }) (number_written x old)
 unfolding number_written
-written_short x k old e h = rw (lt-leb (length (number_bytes x)) (length old) (omega arith))
+put_short x old h = rw (lt-leb (length (number_bytes x)) (length old) h)
 
-pub written_whole : (x k : ℕ) (old buffer : List ℕ) → length (number_bytes x) ≤ length old → k ≡ length (number_bytes x) → buffer ≡ written_over (number_bytes x) old
-    → ◌≡◌ {A = Filled} (record { wrote = k; buffer = buffer }) (number_written x old)
-unfolding number_written
-written_whole x k old buffer h e f = rw (le-leb (length (number_bytes x)) (length old) h, e, f)
+-- what the check is told of a writing
+pub ruleset writing_steps = (number_some, put_short, put_whole)

@@ -1,11 +1,17 @@
 -- Clause 3.1: a number of at most 32 bits as one to five bytes, each with seven bits of it and a top bit, worth 128. A byte is a number
--- below 256. Which bytes are no number is told as in clause 3.2, but this crate knows no refusals: that Ended is 8 and Malformed 9 is said
--- where a table's bytes are read.
-use Rattle.std.specs.Prelude.{List, [], ◌∷◌, ℕ, zero, suc, ◌+◌, ◌-◌, ◌*◌, ◌/◌, ◌%◌, ltb, leb, eqb, length}
+-- below 256. Which bytes are no number is told as in clause 3.2.
+use Rattle.std.specs.Prelude.{List, [], ◌∷◌, ℕ, zero, suc, ◌+◌, ◌-◌, ◌*◌, ◌/◌, ◌%◌, ltb, leb, eqb, length, drop, Option, Some, None, Result, Ok, Err}
+use Rattle.std.specs.Borrow.{Bor}
 use Rattle.lists.specs.Choices.{pick}
 use Rattle.lists.specs.Overwriting.{written_over}
-use Rattle.groups.specs.declared.reading.Reading.{Reading}
-use Rattle.groups.specs.declared.reading.Reading.TheVariants.{Number, Ended, Malformed}
+use Rattle.terms.specs.declared.refusals.InputRefusal.{InputRefusal}
+use Rattle.terms.specs.declared.refusals.InputRefusal.TheVariants as input
+
+-- what stands at the start of some bytes: a number and how many bytes it takes, bytes that end too soon, or no number
+pub data Reading : Type 0 where
+  Number : (value taken : ℕ) → Reading
+  Ended : Reading
+  Malformed : Reading
 
 abbrev pub max_number : ℕ
 max_number = 4294967295
@@ -13,12 +19,6 @@ max_number = 4294967295
 -- how many groups may follow the first: five bytes in all
 abbrev pub max_later : ℕ
 max_later = 4
-
--- how many bytes a reading takes
-abbrev pub taken_by : Reading → ℕ
-taken_by (Number x taken) = taken
-taken_by Ended = 0
-taken_by Malformed = 0
 
 -- the last of several groups is not 0
 unfoldable pub last_group : ℕ → Reading
@@ -41,6 +41,17 @@ unfoldable pub number_of : List ℕ → Reading
 number_of [] = Ended
 number_of (x ∷ bytes) = pick (ltb x 128) (Number x 1) (combined x (later_groups max_later bytes))
 
+-- a reading as the code answers it: the number and the rest of the bytes, or 8 or 9 (clauses 3.2, 12.8 and 12.9)
+abbrev pub number_answer : List ℕ → Reading → Result (ℕ × List ℕ) InputRefusal
+number_answer bytes (Number x taken) = Ok (x, drop taken bytes)
+number_answer bytes Ended = Err input.BytesEnd
+number_answer bytes Malformed = Err input.NumberForm
+
+-- the code's answer in these values: the rest as it stands in the bytes
+abbrev pub handed_on : {X E : Type 0} → Result (X × Bor (List ℕ)) E → Result (X × List ℕ) E
+handed_on (Ok r) = Ok (r.0, r.1.now)
+handed_on (Err e) = Err e
+
 -- x in a group and at most `left` more
 unfoldable pub groups_of : (left : ℕ) → ℕ → List ℕ
 groups_of zero x = x ∷ []
@@ -50,14 +61,14 @@ groups_of (suc left) x = pick (ltb x 128) (x ∷ []) ((x % 128 + 128) ∷ groups
 unfoldable pub number_bytes : ℕ → List ℕ
 number_bytes x = groups_of max_later x
 
--- what a writing comes to: how many bytes were written, and the lent buffer afterwards
+-- what a writing comes to: how many bytes were written, if the buffer had room for them, and the lent buffer afterwards
 pub record Filled : Type 0 where
-  pub wrote : ℕ
+  pub wrote : Option ℕ
   pub buffer : List ℕ
 
 -- a number's bytes from the buffer's start on; where they do not fit, none
 unfoldable pub number_written : ℕ → List ℕ → Filled
 number_written x old =
     pick (leb (length (number_bytes x)) (length old))
-    (record { wrote = length (number_bytes x); buffer = written_over (number_bytes x) old })
-    (record { wrote = 0; buffer = old })
+    (record { wrote = Some (length (number_bytes x)); buffer = written_over (number_bytes x) old })
+    (record { wrote = None; buffer = old })

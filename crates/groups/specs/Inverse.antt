@@ -1,8 +1,7 @@
 -- Of clause 3.1: reading and writing a number are inverse, and every number has exactly one accepted form.
 use Rattle.std.specs.Prelude.{◌≡◌, List, ◌++◌, ℕ, ◌≤◌, ◌<◌, length, get_or}
 use Rattle.lists.specs.Overwriting.{written_over}
-use Rattle.groups.specs.declared.reading.Reading.TheVariants.{Number}
-use Rattle.groups.specs.Groups.{max_number, number_of, number_bytes}
+use Rattle.groups.specs.Groups.{Number, max_number, number_of, number_bytes}
 
 -- each is a byte
 abbrev pub Bytes : List ℕ → Type 0

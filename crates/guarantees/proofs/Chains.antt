@@ -1,7 +1,6 @@
 -- Proves Chains, link by link: a link that is posted has one transfer waiting, which is granted within its finish figure for one; from there
 -- on the same is said of the other links. Assumes nothing.
-use Rattle.std.proofs.Common.{◌≡◌, refl, ap, sym, ◌∙◌, true, false, List, [], ◌∷◌, ℕ, zero, suc, ◌+◌, ◌-◌, ◌*◌, ◌≤◌, ◌<◌, mul-le-mul, mul-le-mul_right, zero-add, arith, lt-ltb, le-leb, eq-eqb, length, length-append}
-use mathlib.Core.Option.{Option, none, some}
+use Rattle.std.proofs.Common.{◌≡◌, refl, ap, sym, ◌∙◌, true, false, List, [], ◌∷◌, ℕ, zero, suc, ◌+◌, ◌-◌, ◌*◌, ◌≤◌, ◌<◌, mul-le-mul, mul-le-mul_right, zero-add, arith, lt-ltb, le-leb, eq-eqb, length, length-append, Option, None, Some}
 use native.Mathlib.Decide.{dec_le}
 use Rattle.lists.specs.Sums.{total}
 use Rattle.lists.specs.Runs.{end, answers}
@@ -69,7 +68,7 @@ module _ (limit : ℕ) (T : Table) where
 
   record Found (p m : ℕ) (s : State) (calls : List Call) : Type 0 where
     at : Reached
-    found : first_grant limit p s calls ≡ some at
+    found : first_grant limit p s calls ≡ Some at
     within : at.slots ≤ m
     left : slots_in (answers_from limit s calls) ≡ at.slots + slots_in (answers_from limit at.state at.onward)
     stands : Stands at.state
@@ -197,7 +196,7 @@ chain_from : (limit : ℕ) (T : Table) (s : State) → Stands limit T s → (p :
 unfolding chain_figure
 chain_from limit T s (on, v) p place names ok inside turn follow =
     let rows : length (requestors_of T) ≡ T.count = rw on at (places_count limit s v) in
-    in_turn limit T (chain_of T names p) (chain_below T names rows ok T.count (some p) place) s inside _ (on, v) turn (omega arith) follow
+    in_turn limit T (chain_of T names p) (chain_below T names rows ok T.count (Some p) place) s inside _ (on, v) turn (omega arith) follow
 
 pub chain_from_sound : ChainFromSound
 unfolding following_verdict
@@ -220,8 +219,8 @@ chain_from_start limit t first a asked p names figure told before inside turn fo
 links_most : (names : List ℕ) (most : ℕ) (o : Option ℕ) → length (chain_to names most o) ≤ most
 unfolding chain_to
 links_most names zero o = omega arith
-links_most names (suc most) none = omega arith
-links_most names (suc most) (some p) = omega (arith, length-append (chain_to names most (follows names p)) (p ∷ []), links_most names most (follows names p))
+links_most names (suc most) None = omega arith
+links_most names (suc most) (Some p) = omega (arith, length-append (chain_to names most (follows names p)) (p ∷ []), links_most names most (follows names p))
 
 sum_most : (f : ℕ → ℕ) (n most : ℕ) → ((p : ℕ) → p < n → f p ≤ most) → (links : List ℕ) → Below n links → total f links ≤ length links * most
 unfolding total
@@ -235,7 +234,7 @@ chain_figure_at_most limit s shape p names figure told =
     let (ok, place) = place_open limit s p f.place in
     let v = sound_open limit s shape ok in
     let t = s.table in
-    let below = chain_below t names (places_count limit s v) (then_open _ _ f.following).0 t.count (some p) place in
+    let below = chain_below t names (places_count limit s v) (then_open _ _ f.following).0 t.count (Some p) place in
     let each : (q : ℕ) → q < t.count → finish t.denominator (requestors_of t) q 1 ≤ most_finish limit = λ q h. figure_at_most limit t v.rows v.passes q 1 h (omega arith) in
-    let links = links_most names t.count (some p) in
+    let links = links_most names t.count (Some p) in
     omega (arith, f.is, sum_most (λ q. finish t.denominator (requestors_of t) q 1) t.count (most_finish limit) each (chain_of t names p) below, mul-le-mul_right (most_finish limit) links)

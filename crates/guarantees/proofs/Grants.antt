@@ -1,16 +1,13 @@
 -- What a slot's answer tells of its grant. Assumes nothing.
-use Rattle.std.proofs.Common.{◌≡◌, refl, ℕ}
-use Rattle.terms.specs.Answers.{Answer, accepted, granted, idle, refused}
-use Rattle.rule.specs.declared.rule.Grant.{Grant}
-use Rattle.rule.specs.declared.rule.Grant.TheVariants.{Nobody, Place}
+use Rattle.std.proofs.Common.{◌≡◌, refl, ℕ, Option, Some, None}
+use Rattle.terms.specs.Answers.{Answer, accepted, granted, idle, refused, slot_answer}
 use Rattle.rule.specs.Grants.{to_place, to_first}
-use Rattle.rule.specs.Calls.{slot_answer}
 use Rattle.guarantees.specs.Counts.{in_slot}
 
 -- an accepted slot's answer is read by its grant
-pub in_slot_answer {ℓ} : {X : Type ℓ} (x : X) (f : Grant → X) (stamp : ℕ) (g : Grant) → in_slot x f (slot_answer stamp g) ≡ f g
-in_slot_answer x f stamp Nobody = refl
-in_slot_answer x f stamp (Place p) = refl
+pub in_slot_answer {ℓ} : {X : Type ℓ} (x : X) (f : Option ℕ → X) (stamp : ℕ) (g : Option ℕ) → in_slot x f (slot_answer stamp g) ≡ f g
+in_slot_answer x f stamp None = refl
+in_slot_answer x f stamp (Some p) = refl
 
 -- so are the counts
 abbrev pub slot_in : Answer → ℕ
@@ -22,19 +19,19 @@ grant_to p = in_slot 0 (to_place p)
 abbrev pub grant_to_first : ℕ → Answer → ℕ
 grant_to_first k = in_slot 0 (to_first k)
 
-pub slot_in_lem : (stamp : ℕ) (g : Grant) → slot_in (slot_answer stamp g) ≡ 1
+pub slot_in_lem : (stamp : ℕ) (g : Option ℕ) → slot_in (slot_answer stamp g) ≡ 1
 slot_in_lem = in_slot_answer {X = ℕ} 0 (λ g. 1)
 
-pub grant_to_lem : (p stamp : ℕ) (g : Grant) → grant_to p (slot_answer stamp g) ≡ to_place p g
+pub grant_to_lem : (p stamp : ℕ) (g : Option ℕ) → grant_to p (slot_answer stamp g) ≡ to_place p g
 grant_to_lem p = in_slot_answer {X = ℕ} 0 (to_place p)
 
-pub grant_to_first_lem : (k stamp : ℕ) (g : Grant) → grant_to_first k (slot_answer stamp g) ≡ to_first k g
+pub grant_to_first_lem : (k stamp : ℕ) (g : Option ℕ) → grant_to_first k (slot_answer stamp g) ≡ to_first k g
 grant_to_first_lem k = in_slot_answer {X = ℕ} 0 (to_first k)
 
 -- what is asked of each accepted slot, said of one
-pub slot_meets : (P : Type 0) (stamp : ℕ) (g : Grant) → in_slot (Unit {0}) (λ g. P) (slot_answer stamp g) → P
-slot_meets P stamp Nobody h = h
-slot_meets P stamp (Place p) h = h
+pub slot_meets : (P : Type 0) (stamp : ℕ) (g : Option ℕ) → in_slot (Unit {0}) (λ g. P) (slot_answer stamp g) → P
+slot_meets P stamp None h = h
+slot_meets P stamp (Some p) h = h
 
 -- and what holds anyway holds in each
 pub in_any_slot : (P : Type 0) (a : Answer) → P → in_slot (Unit {0}) (λ g. P) a

@@ -1,7 +1,7 @@
 -- What the first m places are shown depends only on the table, the slot number, their own accounts and the calls that concern
 -- them: these calls alone, on the state cut to these accounts, show the same; and their order between places does not count (Orders).
 -- For every m, past N too. Assumes nothing.
-use Rattle.std.proofs.Common.{◌≡◌, refl, sym, ap, ap₂, ◌∙◌, true, false, List, [], ◌∷◌, ℕ, zero, suc, ◌≤◌, ◌<◌, arith, ltb-true, ltb-false, lt-ltb, ltb, take, get_or-set_other, take-take, get_or-take}
+use Rattle.std.proofs.Common.{◌≡◌, refl, sym, ap, ap₂, ◌∙◌, true, false, List, [], ◌∷◌, ℕ, zero, suc, ◌≤◌, ◌<◌, arith, ltb-true, ltb-false, lt-ltb, ltb, take, get_or-set_other, take-take, get_or-take, Option, Some, None}
 use lib.Dec.{leb-suc-suc, leb-suc-zero}
 use lib.Seq.{take-set-le, take-set-lt}
 use Rattle.lists.specs.Choices.{pick}
@@ -11,13 +11,11 @@ use Rattle.terms.specs.declared.place.Requestor.{Requestor}
 use Rattle.terms.specs.declared.place.Account.{Account}
 use Rattle.terms.specs.State.{State, no_account, account_at, sound}
 use Rattle.terms.specs.Refusals.{Verdict, faultless, fault, refusal, gate}
-use Rattle.terms.specs.Answers.{Answer}
+use Rattle.terms.specs.Answers.{Answer, slot_answer}
 use Rattle.terms.specs.Table.{requestors_of}
 use Rattle.terms.proofs.Sound.{Sound}
-use Rattle.rule.specs.declared.rule.Grant.{Grant}
-use Rattle.rule.specs.declared.rule.Grant.TheVariants.{Nobody, Place}
 use Rattle.rule.specs.Rule.{eligible, later, first_eligible, served, passed, after}
-use Rattle.rule.specs.Calls.{Call, post, slot, grant_of, advanced, with_post, slot_answer, done, rule_verdict, outcome, ruled, called}
+use Rattle.rule.specs.Calls.{Call, post, slot, grant_of, advanced, with_post, done, rule_verdict, outcome, ruled, called}
 use Rattle.guarantees.specs.Counts.{start_state}
 use Rattle.guarantees.specs.Isolation.{Isolation, PostApart, concerning, view, Shown, shows, shown}
 use Rattle.rule.proofs.Head.{after_later, first_no_account, after_no_account}
@@ -39,28 +37,28 @@ post_apart limit s p count i apart = post_outcome (gate (refusal 23) (sound limi
 
 -- ---- a grant as the first m places see it
 
-seen : ℕ → Grant → Grant
-seen m Nobody = Nobody
-seen m (Place p) = pick (ltb p m) (Place p) Nobody
+seen : ℕ → Option ℕ → Option ℕ
+seen m None = None
+seen m (Some p) = pick (ltb p m) (Some p) None
 
-seen_by_none : (g : Grant) → seen zero g ≡ Nobody
+seen_by_none : (g : Option ℕ) → seen zero g ≡ None
 unfolding seen
-seen_by_none Nobody = refl
-seen_by_none (Place p) = rw leb-suc-zero
+seen_by_none None = refl
+seen_by_none (Some p) = rw leb-suc-zero
 
-seen_at_first : (m : ℕ) → seen (suc m) (Place zero) ≡ Place zero
+seen_at_first : (m : ℕ) → seen (suc m) (Some zero) ≡ Some zero
 unfolding seen
 seen_at_first m = rw (lt-ltb 0 (suc m) (omega arith))
 
-seen_later : (m : ℕ) (g : Grant) → seen (suc m) (later g) ≡ later (seen m g)
+seen_later : (m : ℕ) (g : Option ℕ) → seen (suc m) (later g) ≡ later (seen m g)
 unfolding seen later
-seen_later m Nobody = refl
-seen_later m (Place p) = rw (leb-suc-suc (suc p) m) (cases (ltb p m) (λ e. rw e) (λ e. rw e))
+seen_later m None = refl
+seen_later m (Some p) = rw (leb-suc-suc (suc p) m) (cases (ltb p m) (λ e. rw e) (λ e. rw e))
 
-view_seen : (m stamp : ℕ) (g : Grant) → view m (slot_answer stamp (seen m g)) ≡ view m (slot_answer stamp g)
+view_seen : (m stamp : ℕ) (g : Option ℕ) → view m (slot_answer stamp (seen m g)) ≡ view m (slot_answer stamp g)
 unfolding seen view
-view_seen m stamp Nobody = refl
-view_seen m stamp (Place p) = cases (ltb p m) (λ e. rw (e, e)) (λ e. rw e)
+view_seen m stamp None = refl
+view_seen m stamp (Some p) = cases (ltb p m) (λ e. rw (e, e)) (λ e. rw e)
 
 -- ---- the rule of a slot on the first m accounts: a requestor with no account is never granted, so the table stays whole
 
@@ -74,15 +72,15 @@ module _ (d : ℕ) where
       (λ e. rw (e, seen_at_first m))
       (λ e. rw (e, seen_later m, first_take m rs accounts))
 
-  take_after : (m : ℕ) (g : Grant) (rs : List Requestor) (accounts : List Account)
+  take_after : (m : ℕ) (g : Option ℕ) (rs : List Requestor) (accounts : List Account)
       → take m (after d g rs accounts) ≡ after d (seen m g) rs (take m accounts)
   unfolding after later seen
   take_after zero g rs accounts = sym (after_no_account d (seen zero g) rs)
   take_after (suc m) g [] accounts = refl
   take_after (suc m) g (r ∷ rs) [] = refl
-  take_after (suc m) Nobody (r ∷ rs) (a ∷ accounts) = ap (λ l. passed r a ∷ l) (take_after m Nobody rs accounts)
-  take_after (suc m) (Place zero) (r ∷ rs) (a ∷ accounts) = rw seen_at_first (ap (λ l. served d r a ∷ l) (take_after m Nobody rs accounts))
-  take_after (suc m) (Place (suc p)) (r ∷ rs) (a ∷ accounts) = rw (seen_later m (Place p), after_later, take_after m (Place p) rs accounts)
+  take_after (suc m) None (r ∷ rs) (a ∷ accounts) = ap (λ l. passed r a ∷ l) (take_after m None rs accounts)
+  take_after (suc m) (Some zero) (r ∷ rs) (a ∷ accounts) = rw seen_at_first (ap (λ l. served d r a ∷ l) (take_after m None rs accounts))
+  take_after (suc m) (Some (suc p)) (r ∷ rs) (a ∷ accounts) = rw (seen_later m (Some p), after_later, take_after m (Some p) rs accounts)
 
 -- ---- a call on the state cut to the first m accounts
 
@@ -99,7 +97,7 @@ module _ (m : ℕ) (s : State) where
   unfolding cut grant_of
   cut_grant = first_take s.table.denominator m (requestors_of s.table) s.accounts
 
-  cut_advanced : (g : Grant) → advanced (cut m s) (seen m g) ≡ cut m (advanced s g)
+  cut_advanced : (g : Option ℕ) → advanced (cut m s) (seen m g) ≡ cut m (advanced s g)
   unfolding cut advanced
   cut_advanced g = rw take_after
 

@@ -1,6 +1,6 @@
 -- The leads over the log of an accepted run: its bytes count its grants, and the ceiling and the floor are those of the stretch.
 -- Assumes nothing.
-use Rattle.std.proofs.Common.{◌≡◌, refl, ap, ap₂, sym, subst, ◌∙◌, true, false, List, [], ◌∷◌, map, ℕ, zero, suc, ◌+◌, ◌-◌, ◌*◌, ◌≤◌, ◌<◌, add-zero, add_comm, mul-zero, zero-mul, suc-mul, arith, lt-ltb, le-ltb, ne_eqb, eqb-true, ltb-true, ltb-false, ltb, eqb, pos, neg_ℤ, ◌+ℤ◌, ◌-ℤ◌, ◌*ℤ◌, length, take, get_or, get_or-take}
+use Rattle.std.proofs.Common.{◌≡◌, refl, ap, ap₂, sym, subst, ◌∙◌, true, false, List, [], ◌∷◌, map, ℕ, zero, suc, ◌+◌, ◌-◌, ◌*◌, ◌≤◌, ◌<◌, add-zero, add_comm, mul-zero, zero-mul, suc-mul, arith, lt-ltb, le-ltb, ne_eqb, eqb-true, ltb-true, ltb-false, ltb, eqb, pos, neg_ℤ, ◌+ℤ◌, ◌-ℤ◌, ◌*ℤ◌, length, take, get_or, get_or-take, Option, Some, None}
 use borrow.Author.Tests.{eqb-false}
 use lib.IntN.{+ℤ_assoc, +ℤ_comm, +ℤ_idr, +ℤ_invr, +ℤ-neg_ℤ_cancel, neg_ℤ-+ℤ, pos-+ℤ-pos, zero-*ℤ, suc_ℤ-*ℤ}
 use Rattle.lists.specs.Choices.{pick}
@@ -14,8 +14,6 @@ use Rattle.terms.specs.Figures.{bursts_above, rate_left}
 use Rattle.lead_parts.specs.Counts.{bytes_equal}
 use Rattle.lead_parts.specs.Lead.{lead_of, lead_in}
 use Rattle.terms.proofs.Sound.{sound_open}
-use Rattle.rule.specs.declared.rule.Grant.{Grant}
-use Rattle.rule.specs.declared.rule.Grant.TheVariants.{Nobody, Place}
 use Rattle.rule.specs.Grants.{to_place, to_first}
 use Rattle.rule.specs.Calls.{ruled}
 use Rattle.rule.specs.Log.{run}
@@ -85,10 +83,10 @@ bytes_to_place p [] h = refl
 bytes_to_place p (a ∷ answered) h = ap₂ (λ x y. x + y) (byte_to_place p a h) (bytes_to_place p answered h)
 
 -- one place more
-to_first_next : (k : ℕ) (g : Grant) → to_first (suc k) g ≡ to_first k g + to_place k g
+to_first_next : (k : ℕ) (g : Option ℕ) → to_first (suc k) g ≡ to_first k g + to_place k g
 unfolding to_first to_place
-to_first_next k Nobody = refl
-to_first_next k (Place i) = cases (eqb i k)
+to_first_next k None = refl
+to_first_next k (Some i) = cases (eqb i k)
     (λ same. here (eqb-true i k same) same)
     (λ other. elsewhere (eqb-false i k other) other)
   where
@@ -102,8 +100,8 @@ to_first_next k (Place i) = cases (eqb i k)
 
 answer_next : (k : ℕ) (a : Answer) → grant_to_first (suc k) a ≡ grant_to_first k a + grant_to k a
 answer_next k accepted = refl
-answer_next k (granted stamp p) = to_first_next k (Place p)
-answer_next k (idle stamp) = to_first_next k Nobody
+answer_next k (granted stamp p) = to_first_next k (Some p)
+answer_next k (idle stamp) = to_first_next k None
 answer_next k (refused r) = refl
 
 grants_next : (k : ℕ) (answered : List Answer) → grants_to_first (suc k) answered ≡ grants_to_first k answered + grants_to k answered
@@ -115,8 +113,8 @@ grants_none : (answered : List Answer) → grants_to_first 0 answered ≡ 0
 unfolding total
 grants_none [] = refl
 grants_none (accepted ∷ answered) = omega (arith, grants_none answered)
-grants_none (granted stamp p ∷ answered) = omega (arith, to_first_zero (Place p), grants_none answered)
-grants_none (idle stamp ∷ answered) = omega (arith, to_first_zero Nobody, grants_none answered)
+grants_none (granted stamp p ∷ answered) = omega (arith, to_first_zero (Some p), grants_none answered)
+grants_none (idle stamp ∷ answered) = omega (arith, to_first_zero None, grants_none answered)
 grants_none (refused r ∷ answered) = omega (arith, grants_none answered)
 
 -- ---- leads by grants

@@ -1,5 +1,5 @@
 -- Proves NeedFits: nothing but a row's own limits looks at its need, the rule least of all. Assumes nothing.
-use Rattle.std.proofs.Common.{◌≡◌, refl, ap, sym, ◌∙◌, true, List, [], ◌∷◌, ℕ, zero, suc, ◌≤◌, ◌<◌, arith, length, take, set, length-set, drop-set-lt}
+use Rattle.std.proofs.Common.{◌≡◌, refl, ap, sym, ◌∙◌, true, List, [], ◌∷◌, ℕ, zero, suc, ◌≤◌, ◌<◌, arith, length, take, set, length-set, drop-set-lt, Option, Some, None}
 use Rattle.lists.specs.Sums.{total}
 use Rattle.lists.specs.Runs.{Result, end, answers}
 use Rattle.lists.proofs.Sums.{total_take_set, at_set}
@@ -16,8 +16,6 @@ use Rattle.terms.specs.Chain as chains
 use Rattle.terms.proofs.Checks.{then_open, row_open, row_passes, passed, passes, admitted, admission_left, fair}
 use Rattle.terms.proofs.Sound.{Sound, sound_open, sound_shut, places_length, start_admitted}
 use Rattle.lead_parts.specs.Lead.{lead_verdict, lead_query}
-use Rattle.rule.specs.declared.rule.Grant.{Grant}
-use Rattle.rule.specs.declared.rule.Grant.TheVariants.{Nobody, Place}
 use Rattle.rule.specs.Rule.{eligible, first_eligible, served, passed as unserved, after}
 use Rattle.rule.specs.Calls.{Call, post, slot, grant_of, advanced, with_post, done, rule_verdict, outcome, ruled}
 use Rattle.rule.specs.Log.{grant_byte, slots_state, slots_log, run_verdict, Outcome, run}
@@ -98,17 +96,17 @@ module _ (j : ℕ) where
   same_grant d (suc p) (r ∷ rs) [] = refl
   same_grant d (suc p) (r ∷ rs) (a ∷ accounts) = rw (same_grant d p rs accounts)
 
-  same_after : (d p : ℕ) (g : Grant) (rs : List Requestor) (accounts : List Account) → after d g (needs_at p rs) accounts ≡ after d g rs accounts
+  same_after : (d p : ℕ) (g : Option ℕ) (rs : List Requestor) (accounts : List Account) → after d g (needs_at p rs) accounts ≡ after d g rs accounts
   unfolding after served unserved
   same_after d p g [] accounts = refl
   same_after d zero g (r ∷ rs) [] = refl
-  same_after d zero Nobody (r ∷ rs) (a ∷ accounts) = refl
-  same_after d zero (Place zero) (r ∷ rs) (a ∷ accounts) = refl
-  same_after d zero (Place (suc q)) (r ∷ rs) (a ∷ accounts) = refl
+  same_after d zero None (r ∷ rs) (a ∷ accounts) = refl
+  same_after d zero (Some zero) (r ∷ rs) (a ∷ accounts) = refl
+  same_after d zero (Some (suc q)) (r ∷ rs) (a ∷ accounts) = refl
   same_after d (suc p) g (r ∷ rs) [] = refl
-  same_after d (suc p) Nobody (r ∷ rs) (a ∷ accounts) = rw (same_after d p Nobody rs accounts)
-  same_after d (suc p) (Place zero) (r ∷ rs) (a ∷ accounts) = rw (same_after d p Nobody rs accounts)
-  same_after d (suc p) (Place (suc q)) (r ∷ rs) (a ∷ accounts) = rw (same_after d p (Place q) rs accounts)
+  same_after d (suc p) None (r ∷ rs) (a ∷ accounts) = rw (same_after d p None rs accounts)
+  same_after d (suc p) (Some zero) (r ∷ rs) (a ∷ accounts) = rw (same_after d p None rs accounts)
+  same_after d (suc p) (Some (suc q)) (r ∷ rs) (a ∷ accounts) = rw (same_after d p (Some q) rs accounts)
 
 -- ---- the state
 
@@ -150,7 +148,7 @@ module _ (p j : ℕ) where
   unfolding grant_of
   same_grant_of s = rw (take_needs j s.table.count p s.table.requestors) (same_grant j s.table.denominator p (requestors_of s.table) s.accounts)
 
-  same_advanced : (s : State) (g : Grant) → advanced (with s) g ≡ with (advanced s g)
+  same_advanced : (s : State) (g : Option ℕ) → advanced (with s) g ≡ with (advanced s g)
   unfolding advanced
   same_advanced s g = rw (take_needs j s.table.count p s.table.requestors, same_after j s.table.denominator p g (requestors_of s.table) s.accounts)
 

@@ -5,11 +5,11 @@ use Rattle.lists.specs.Sums.{total}
 use Rattle.terms.specs.State.{State, sound, Shaped}
 use Rattle.terms.specs.Limits.{max_slot, max_input}
 use Rattle.terms.specs.Refusals.{Verdict, faultless, fault, gate, then, resolve}
-use Rattle.terms.specs.Answers.{accepted, refused}
+use Rattle.terms.specs.Answers.{accepted, refused, slot_answer}
 use Rattle.terms.specs.Input.{input_verdict}
 use Rattle.terms.proofs.Checks.{gate_open, then_open}
 use Rattle.terms.proofs.Sound.{sound_shut, sound_open}
-use Rattle.rule.specs.Calls.{slot, grant_of, advanced, slot_answer, done, rule_verdict, ruled}
+use Rattle.rule.specs.Calls.{slot, grant_of, advanced, done, rule_verdict, ruled}
 use Rattle.rule.specs.Log.{grant_byte, slots_state, slots_log, slots_verdict, run_verdict, Outcome, run}
 use Rattle.rule.proofs.Logs.{slots_sound, state_adds, log_adds}
 use Rattle.guarantees.specs.Counts.{slots_in, state_after}

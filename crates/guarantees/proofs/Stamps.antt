@@ -1,14 +1,12 @@
 -- The accepted slots of a list of calls are stamped with the state's slot number and the numbers after it, so no two alike.
 -- Assumes nothing.
-use Rattle.std.proofs.Common.{◌≡◌, refl, ap, List, [], ◌∷◌, ℕ, zero, suc, ◌+◌, ◌<◌, not-suc-le-zero, zero-add, add-zero, one-add, arith, length, get_or}
+use Rattle.std.proofs.Common.{◌≡◌, refl, ap, List, [], ◌∷◌, ℕ, zero, suc, ◌+◌, ◌<◌, not-suc-le-zero, zero-add, add-zero, one-add, arith, length, get_or, Option, Some, None}
 use Rattle.lists.specs.Sums.{total}
 use Rattle.lists.specs.Runs
 use Rattle.terms.specs.State.{State}
-use Rattle.terms.specs.Answers.{Answer}
+use Rattle.terms.specs.Answers.{Answer, slot_answer}
 use Rattle.terms.specs.Start.{opening}
-use Rattle.rule.specs.declared.rule.Grant.{Grant}
-use Rattle.rule.specs.declared.rule.Grant.TheVariants.{Nobody, Place}
-use Rattle.rule.specs.Calls.{Call, grant_of, advanced, with_post, slot_answer, ruled}
+use Rattle.rule.specs.Calls.{Call, grant_of, advanced, with_post, ruled}
 use Rattle.guarantees.specs.Counts.{slots_in}
 use Rattle.guarantees.specs.Stamps.{Stamps, DistinctStamps, stamps_in, counted_from}
 use Rattle.guarantees.proofs.Step.{by_kind}
@@ -21,10 +19,10 @@ StampedFrom n answered = stamps_in answered ≡ counted_from n (slots_in answere
 -- ---- along a list of calls
 
 -- an accepted slot in front takes the number before
-slot_in_front : (n : ℕ) (g : Grant) (answered : List Answer) → StampedFrom (n + 1) answered → StampedFrom n (slot_answer n g ∷ answered)
+slot_in_front : (n : ℕ) (g : Option ℕ) (answered : List Answer) → StampedFrom (n + 1) answered → StampedFrom n (slot_answer n g ∷ answered)
 unfolding stamps_in counted_from total
-slot_in_front n Nobody answered h = rw one-add (ap (λ l. n ∷ l) h)
-slot_in_front n (Place p) answered h = rw one-add (ap (λ l. n ∷ l) h)
+slot_in_front n None answered h = rw one-add (ap (λ l. n ∷ l) h)
+slot_in_front n (Some p) answered h = rw one-add (ap (λ l. n ∷ l) h)
 
 -- any other call in front takes none
 call_in_front : (s : State) (c : Call) (answered : List Answer)

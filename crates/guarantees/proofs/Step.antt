@@ -1,6 +1,6 @@
 -- One call of the rule by its three kinds, refused, posted and slot: the eliminator of every fact about a run, and what each kind
 -- says. Assumes nothing.
-use Rattle.std.proofs.Common.{◌≡◌, refl, sym, ℕ, ◌+◌, ◌≤◌, ◌<◌, arith, ltb-true, leb-true, eqb-true, eqb, length, take, get_or-set_same, get_or-set_other}
+use Rattle.std.proofs.Common.{◌≡◌, refl, sym, ℕ, ◌+◌, ◌≤◌, ◌<◌, arith, ltb-true, leb-true, eqb-true, eqb, length, take, get_or-set_same, get_or-set_other, Option, Some, None}
 use borrow.Author.Tests.{eqb-false}
 use Rattle.lists.specs.Choices.{pick}
 use Rattle.lists.proofs.Tests.{cases}
@@ -10,11 +10,9 @@ use Rattle.terms.specs.declared.refusals.Refusal.{Refusal}
 use Rattle.terms.specs.State.{State, credit, backlog, no_account, account_at}
 use Rattle.terms.specs.Limits.{max_backlog, max_slot}
 use Rattle.terms.specs.Refusals.{Verdict, faultless, fault, refusal}
-use Rattle.terms.specs.Answers.{Answer, accepted, refused}
+use Rattle.terms.specs.Answers.{Answer, accepted, refused, slot_answer}
 use Rattle.terms.proofs.Checks.{faultless_fault, gate_open, gate_not}
-use Rattle.rule.specs.declared.rule.Grant.{Grant}
-use Rattle.rule.specs.declared.rule.Grant.TheVariants.{Nobody, Place}
-use Rattle.rule.specs.Calls.{Call, post, slot, grant_of, advanced, with_count, with_post, slot_answer, done, rule_verdict, outcome, ruled}
+use Rattle.rule.specs.Calls.{Call, post, slot, grant_of, advanced, with_count, with_post, done, rule_verdict, outcome, ruled}
 use Rattle.rule.proofs.Verdicts.{outcome_table}
 
 -- P of a call, the state that it hands back and its answer
@@ -80,9 +78,9 @@ unfolding rule_verdict
 rule_never_23 s (post p count) = gate_not _ _ _ _ (omega arith) (gate_not _ _ _ _ (omega arith) (faultless_fault _))
 rule_never_23 s slot = gate_not _ _ _ _ (omega arith) (faultless_fault _)
 
-slot_answer_not : (stamp : ℕ) (g : Grant) (r : Refusal) → slot_answer stamp g ≡ refused r → ⊥
-slot_answer_not stamp Nobody r e = let z : ◌≡◌ {A = ℕ} 0 1 = cc in omega arith
-slot_answer_not stamp (Place p) r e = let z : ◌≡◌ {A = ℕ} 0 1 = cc in omega arith
+slot_answer_not : (stamp : ℕ) (g : Option ℕ) (r : Refusal) → slot_answer stamp g ≡ refused r → ⊥
+slot_answer_not stamp None r e = let z : ◌≡◌ {A = ℕ} 0 1 = cc in omega arith
+slot_answer_not stamp (Some p) r e = let z : ◌≡◌ {A = ℕ} 0 1 = cc in omega arith
 
 pub ruled_never_23 : (s : State) (c : Call) → (ruled s c).answer ≡ refused (refusal 23) → ⊥
 ruled_never_23 s c = by_kind (λ c u a. a ≡ refused (refusal 23) → ⊥) s c

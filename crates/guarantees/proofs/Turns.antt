@@ -1,10 +1,9 @@
 -- What one slot does to a place that waits: one above it is granted, or it is, or it is short of credit. Assumes nothing.
-use Rattle.std.proofs.Common.{ap, ◌≡◌, ◌∙◌, List, [], ◌∷◌, ℕ, zero, suc, ◌+◌, ◌<◌, not-suc-le-zero, arith, length}
+use Rattle.std.proofs.Common.{ap, ◌≡◌, ◌∙◌, List, [], ◌∷◌, ℕ, zero, suc, ◌+◌, ◌<◌, not-suc-le-zero, arith, length, None}
 use Rattle.terms.specs.declared.place.Requestor.{Requestor}
 use Rattle.terms.specs.declared.place.Account.{Account}
 use Rattle.terms.specs.State.{credit, backlog, account_at}
 use Rattle.terms.specs.Table.{requestor_at}
-use Rattle.rule.specs.declared.rule.Grant.TheVariants.{Nobody}
 use Rattle.rule.specs.Rule.{first_eligible, served, after}
 use Rattle.rule.proofs.Accounts.{passed_waiting}
 use Rattle.rule.proofs.Head.{slotted, Passed, by_head}
@@ -21,7 +20,7 @@ pub data Turn (d p : ℕ) (rs : List Requestor) (accounts : List Account) : Type
       → credit (account_at p (slotted d rs accounts)) ≡ credit (account_at p accounts) + (requestor_at p rs).rate → Turn d p rs accounts
 
 after_idle_credit : (d p : ℕ) (rs : List Requestor) (accounts : List Account) → p < length rs → 0 < backlog (account_at p accounts)
-    → credit (account_at p (after d Nobody rs accounts)) ≡ credit (account_at p accounts) + (requestor_at p rs).rate
+    → credit (account_at p (after d None rs accounts)) ≡ credit (account_at p accounts) + (requestor_at p rs).rate
 unfolding after
 after_idle_credit d p [] accounts h waits = absurd (not-suc-le-zero h)
 after_idle_credit d p (r ∷ rs) [] h waits = absurd (not-suc-le-zero waits)

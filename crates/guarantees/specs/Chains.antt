@@ -3,8 +3,7 @@
 -- is then among as many accepted slots as the figure says, if the list has so many. The first link posts ahead of the list's first accepted
 -- slot, so that the slots of the list are those after the first post. All else is free: other posts, their places and counts, and refused
 -- calls, also between a grant and the post that answers it. That a link is granted is concluded and not asked; no credit is asked for.
-use Rattle.std.specs.Prelude.{◌≡◌, Bool, true, false, List, [], ◌∷◌, ◌++◌, ℕ, ◌+◌, ◌-◌, ◌*◌, ◌≤◌, ◌<◌}
-use Rattle.std.proofs.Math.Option.{Option, none, some}
+use Rattle.std.specs.Prelude.{◌≡◌, Bool, true, false, List, [], ◌∷◌, ◌++◌, ℕ, ◌+◌, ◌-◌, ◌*◌, ◌≤◌, ◌<◌, Option, None, Some}
 use Rattle.lists.specs.Choices.{pick}
 use Rattle.lists.specs.Runs
 use Rattle.terms.specs.Table.{Table}
@@ -45,23 +44,23 @@ pub record Reached : Type 0 where
 
 -- the same, with a call ahead of it that gave this answer
 unfoldable pub reached_past : Answer → Option Reached → Option Reached
-reached_past a none = none
-reached_past a (some g) = some (record { slots = slots_in (a ∷ []) + g.slots; state = g.state; onward = g.onward })
+reached_past a None = None
+reached_past a (Some g) = Some (record { slots = slots_in (a ∷ []) + g.slots; state = g.state; onward = g.onward })
 
 -- up to the first grant to place p, and with it
 unfoldable pub first_grant : ℕ → (place : ℕ) → State → List Call → Option Reached
-first_grant limit p s [] = none
+first_grant limit p s [] = None
 first_grant limit p s (c ∷ calls) =
     pick (is_grant_to p (called limit s c).answer)
-    (some (record { slots = 1; state = (called limit s c).state; onward = calls }))
+    (Some (record { slots = 1; state = (called limit s c).state; onward = calls }))
     (reached_past (called limit s c).answer (first_grant limit p (called limit s c).state calls))
 
 -- ---- the links in turn
 
 -- what is asked of what follows a grant, if there is one
 abbrev pub upon_grant : Option Reached → (Reached → Type 0) → Type 0
-upon_grant none next = Unit {0}
-upon_grant (some g) next = next g
+upon_grant None next = Unit {0}
+upon_grant (Some g) next = next g
 
 -- Clause 9.4, asked of the calls from s on: if a further slot is accepted, the first link's post stands ahead of it; and where that link
 -- is granted, the same is asked of the other links from there on.
@@ -78,7 +77,7 @@ GrantedInTurn limit [] s calls slots = Unit {0}
 GrantedInTurn limit (p ∷ links) s calls slots =
     (x : PostedNext limit s calls p)
     × (g : Reached)
-    × (first_grant limit p (posted_state x) x.behind ≡ some g)
+    × (first_grant limit p (posted_state x) x.behind ≡ Some g)
     × (g.slots ≤ slots)
     × GrantedInTurn limit links g.state g.onward (slots - g.slots)
 

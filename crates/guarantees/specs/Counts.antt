@@ -1,21 +1,19 @@
 -- What is counted along a list of calls (clauses 10.1, 10.3 and 10.4). Slots and grants are counted in what the calls answered.
-use Rattle.std.specs.Prelude.{List, [], ◌∷◌, ◌≡◌, ℕ, zero, suc, ◌<◌, length}
+use Rattle.std.specs.Prelude.{List, [], ◌∷◌, ◌≡◌, ℕ, zero, suc, ◌<◌, length, Option, Some, None}
 use Rattle.lists.specs.Sums.{total}
 use Rattle.lists.specs.Runs
 use Rattle.terms.specs.Table.{Table}
 use Rattle.terms.specs.State.{State, backlog, account_at}
 use Rattle.terms.specs.Answers.{Answer, accepted, granted, idle, refused}
 use Rattle.terms.specs.Start.{start}
-use Rattle.rule.specs.declared.rule.Grant.{Grant}
-use Rattle.rule.specs.declared.rule.Grant.TheVariants.{Nobody, Place}
 use Rattle.rule.specs.Grants.{to_place, to_first}
 use Rattle.rule.specs.Calls.{Call, ruled, called}
 
 -- f of the grant of an accepted slot, x of any other answer
-abbrev pub in_slot {ℓ} : {X : Type ℓ} → X → (Grant → X) → Answer → X
+abbrev pub in_slot {ℓ} : {X : Type ℓ} → X → (Option ℕ → X) → Answer → X
 in_slot x f accepted = x
-in_slot x f (granted stamp p) = f (Place p)
-in_slot x f (idle stamp) = f Nobody
+in_slot x f (granted stamp p) = f (Some p)
+in_slot x f (idle stamp) = f None
 in_slot x f (refused r) = x
 
 -- the number of accepted slots: m of a stretch (clause 10.3)

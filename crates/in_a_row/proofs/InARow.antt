@@ -1,18 +1,15 @@
 -- The steps' texts in a row are the listing: each step but the last takes a byte of the input at least, so that no more steps than bytes
 -- follow the first. Assumes nothing.
-use Rattle.std.proofs.Common.{◌≡◌, refl, ap, sym, ◌∙◌, Bool, true, false, List, [], ◌++◌, ℕ, zero, suc, ◌+◌, ◌≤◌, arith, leb, eqb, length, take, drop, length-drop}
+use Rattle.std.proofs.Common.{◌≡◌, refl, ap, sym, ◌∙◌, Bool, true, false, List, [], ◌++◌, ℕ, zero, suc, ◌+◌, ◌≤◌, arith, leb, length, take, drop, length-drop}
 use borrow.Author.Tests.{lt-leb}
 use Rattle.lists.specs.Choices.{pick}
-use Rattle.lists.specs.Runs.{Result}
-use Rattle.groups.specs.declared.reading.Reading as number
-use Rattle.groups.specs.declared.reading.Reading.TheVariants.{Number, Ended, Malformed}
-use Rattle.groups.specs.Groups.{number_of}
+use Rattle.groups.specs.Groups.{Reading, Number, Ended, Malformed, number_of}
 use Rattle.groups.proofs.Readings.{number_takes, number_some}
 use Rattle.terms.specs.State.{State, sound}
-use Rattle.terms.specs.Refusals.{Verdict, faultless, fault, refusal, gate, resolve}
-use Rattle.terms.specs.Answers.{Answer, accepted, granted, idle, refused, unless}
+use Rattle.terms.specs.Refusals.{refusal, gate}
+use Rattle.terms.specs.Answers.{Answer}
 use Rattle.terms.specs.Limits.{max_input}
-use Rattle.terms.specs.Start.{no_state, start}
+use Rattle.terms.specs.Start.{no_state}
 use Rattle.terms.specs.Input.{input_verdict}
 use Rattle.terms.proofs.Checks.{fair}
 use Rattle.terms.proofs.Sound.{sound_table}
@@ -20,8 +17,8 @@ use Rattle.terms.specs.TableResult.{TableResult}
 use Rattle.table_bytes.specs.Reading.{Read, read, stop, next, read_as, number_read, items_read, read_table}
 use Rattle.table_bytes.proofs.Accepted.{stop_read, next_open, read_same}
 use Rattle.reads.specs.Reads.{counts_read, start_read, state_read, begun}
-use Rattle.listing.specs.Listing.{Step, more, last, post_and_slot, slot_output, slot_step, step, headed, first_step, texts, listing}
-use Rattle.lines.specs.Lines.{header, end_line, refused_line}
+use Rattle.listing.specs.Listing.{Step, more, last, slot_output, slot_step, step, headed, first_step, texts, listing}
+use Rattle.lines.specs.Lines.{header, refused_line}
 use Rattle.in_a_row.specs.InARow.{InARow, PrintsListing, ComesToAnEnd, TooLong}
 use Rattle.reads.proofs.Counting.{count}
 
@@ -30,7 +27,7 @@ use Rattle.reads.proofs.Counting.{count}
 -- a number takes a byte at least
 number_shorter : (bytes : List ℕ) (x : ℕ) (rest : List ℕ) → number_read bytes ≡ read x rest → suc (length rest) ≤ length bytes
 number_shorter bytes x rest e = told (number_of bytes) refl e where
-  told : (n : number.Reading) → number_of bytes ≡ n → read_as bytes n ≡ read x rest → suc (length rest) ≤ length bytes
+  told : (n : Reading) → number_of bytes ≡ n → read_as bytes n ≡ read x rest → suc (length rest) ≤ length bytes
   told (Number y taken) f g =
       let same = (read_same y x (drop taken bytes) rest g).1 in
       let least = number_some bytes y taken f in
@@ -58,51 +55,25 @@ follows (last text s) = 0
 
 output_leaves : (s : State) (answer : Answer) (after : State) (rest : List ℕ) → follows (slot_output s answer after rest) ≤ suc (length rest)
 unfolding slot_output
-output_leaves s (granted stamp p) after rest = omega arith
-output_leaves s (idle stamp) after rest = omega arith
-output_leaves s (refused why) after rest = omega arith
-output_leaves s accepted after rest = omega arith
+output_leaves s answer after rest = grind arith
 
 slot_leaves : (limit : ℕ) (s : State) (bytes : List ℕ) → 1 ≤ s.table.count → follows (slot_step limit s (counts_read s.table.count bytes)) ≤ length bytes
 unfolding slot_step
-slot_leaves limit s bytes some = told (counts_read s.table.count bytes) refl where
-  told : (r : Read (List ℕ)) → counts_read s.table.count bytes ≡ r → follows (slot_step limit s r) ≤ length bytes
-  told (read counts rest) e =
-      let done = post_and_slot limit s counts in
-      omega (arith, output_leaves s done.answer done.state rest, items_shorter s.table.count 0 bytes counts rest e)
-  told (stop why) e = omega arith
+slot_leaves limit s bytes some = grind (arith, output_leaves, items_shorter)
+
+-- a sound table has a place
+count_some : (limit : ℕ) (s : State) → sound limit s ≡ true → 1 ≤ s.table.count
+count_some limit s e = (fair limit s.table (sound_table limit s e)).count_least
 
 pub step_leaves : (limit : ℕ) (s : State) (rest : List ℕ) → follows (step limit s rest) ≤ length rest
 unfolding step
-step_leaves limit s rest = by_sound (sound limit s) refl where
-  by_end : (ended : Bool) → 1 ≤ s.table.count → follows (pick ended (last (end_line s.slot.0) s) (slot_step limit s (counts_read s.table.count rest))) ≤ length rest
-  by_end true some = omega arith
-  by_end false some = slot_leaves limit s rest some
-
-  by_sound : (holds : Bool) → sound limit s ≡ holds
-      → follows (pick holds (pick (eqb (length rest) 0) (last (end_line s.slot.0) s) (slot_step limit s (counts_read s.table.count rest))) (last (refused_line (refusal 23)) s)) ≤ length rest
-  by_sound true e = by_end (eqb (length rest) 0) (fair limit s.table (sound_table limit s e)).count_least
-  by_sound false e = omega arith
+step_leaves limit s rest = grind (arith, slot_leaves, count_some)
 
 -- ---- the first step
 
 start_leaves : (limit : ℕ) (r : TableResult) (rest : List ℕ) → follows (headed limit (start_read limit r rest)) ≤ suc (length rest)
 unfolding start_read headed
-start_leaves limit r rest = by_table r.answer where
-  by_start : (a : Answer) (s : State) → follows (headed limit (unless a stop (read s rest))) ≤ suc (length rest)
-  by_start accepted s = omega arith
-  by_start (granted stamp p) s = omega arith
-  by_start (idle stamp) s = omega arith
-  by_start (refused why) s = omega arith
-
-  begun_state : Result State Answer
-  begun_state = start limit r.table 0
-
-  by_table : (a : Answer) → follows (headed limit (unless a stop (unless begun_state.answer stop (read begun_state.state rest)))) ≤ suc (length rest)
-  by_table accepted = by_start begun_state.answer begun_state.state
-  by_table (granted stamp p) = by_start begun_state.answer begun_state.state
-  by_table (idle stamp) = by_start begun_state.answer begun_state.state
-  by_table (refused why) = omega arith
+start_leaves limit r rest = grind arith
 
 table_leaves : (limit : ℕ) (input : List ℕ) → follows (headed limit (state_read limit input)) ≤ length input
 unfolding state_read headed next
@@ -117,10 +88,7 @@ table_leaves limit input = told (number_read input) refl where
 
 first_leaves : (limit : ℕ) (input : List ℕ) → follows (first_step limit input) ≤ length input
 unfolding first_step begun headed
-first_leaves limit input = told (input_verdict (length input)) where
-  told : (v : Verdict) → follows (headed limit (resolve v (state_read limit input) stop)) ≤ length input
-  told faultless = table_leaves limit input
-  told (fault why) = omega arith
+first_leaves limit input = grind (arith, table_leaves)
 
 -- ---- in a row
 

@@ -8,26 +8,23 @@ ghost use Rattle.rule.specs.Calls.{slot, called};
 ghost use Rattle.calls.specs.ByValue.{slot_result_of};
 
 use arbiter::state::Arbiter;
-use calls::slot::{SlotResult, slot};
-use terms::answers::SlotAnswer;
+use calls::slot::slot;
+use terms::answers::{Outcome, Slot};
+use terms::refusals::Cause;
 
 // The lent state is what the by-value slot hands back, and the answer is its answer. Refused, 23 and 22 (clause 13.8): it is as it was.
-pub fn slot_in_place(s: &mut Arbiter) -> SlotAnswer
-    ensures { slot_result_of (record { state = s.new; answer = result }) ≡ called max_places (held s.old) slot }
+pub fn slot_in_place(s: &mut Arbiter) -> Result<Slot, Cause>
+    ensures { slot_result_of (record { after = s.new; answer = result }) ≡ called max_places (held s.old) slot }
 {
-    let done = slot(*s);
-    *s = done.state;
-    done.answer
+    let Outcome { after, answer } = slot(*s);
+    *s = after;
+    answer
 }
 
-// For a caller that holds the state by value: a local is lent to the thin form and handed back.
-pub fn slot_through_reference(s: Arbiter) -> SlotResult
+// For a caller that holds the state by value: it is lent to the thin form and handed back.
+pub fn slot_through_reference(mut s: Arbiter) -> Outcome<Arbiter, Slot>
     ensures { slot_result_of result ≡ called max_places (held s) slot }
 {
-    let mut state = s;
-    let answer = slot_in_place(&mut state);
-    SlotResult {
-        state: state,
-        answer: answer,
-    }
+    let answer = slot_in_place(&mut s);
+    Outcome { after: s, answer }
 }

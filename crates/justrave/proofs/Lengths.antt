@@ -1,36 +1,30 @@
--- The test of lengths ahead of a call, and answers of one and two words. Assumes nothing.
-use Rattle.std.proofs.Common.{◌≡◌, refl, sym, ◌∙◌, Bool, true, false, ◌&&◌, List, [], ◌∷◌, ℕ, ◌≤◌, arith, eqb-true, eqb, length, set}
-use Rattle.lists.proofs.Tests.{and_true}
+-- The test of lengths ahead of a call. Assumes nothing.
+use Rattle.std.proofs.Common.{◌≡◌, Bool, true, false, ◌&&◌, List, ℕ, ◌≤◌, arith, length}
+use Rattle.terms.specs.declared.refusals.Refusal.{Refusal}
 use Rattle.terms.specs.State.{State}
 use Rattle.layout.specs.Words.{room_of_words, right_length, state_of}
 use Rattle.layout.proofs.RoundTrip.{right}
+use Rattle.outcomes.specs.Places.{Below}
+use Rattle.outcomes.proofs.Numbering.{below_more}
 use Rattle.justrave.specs.Exported.{on_state}
 
-module _ (most : ℕ) (words : List ℕ) (beside hold : Bool) (e : hold ≡ (right_length most words && beside)) where
-  -- they hold: those of the words, and of what is lent beside them
-  pub lent_right : hold ≡ true → right_length most words ≡ true
-  lent_right z = (and_true (right_length most words) beside (sym e ∙ z)).0
+-- right lengths: the call on the state that the words are; a wrong one turns it down
+module _ {X : Type 0} (most : ℕ) (words : List ℕ) (beside : Bool) (down : X) (call : ℕ → State → X) where
+  pub on_open : (right_length most words && beside) ≡ true → on_state most words beside down call ≡ call (room_of_words words) (state_of words)
+  unfolding on_state
+  on_open z = rw z
 
-  pub lent_room : hold ≡ true → room_of_words words ≤ most
-  lent_room z = (right most words (lent_right z)).room_most
+  pub on_shut : (right_length most words && beside) ≡ false → on_state most words beside down call ≡ down
+  unfolding on_state
+  on_shut z = rw z
 
-  pub lent_beside : hold ≡ true → beside ≡ true
-  lent_beside z = (and_true (right_length most words) beside (sym e ∙ z)).1
+-- room for the head, and for as many places as a state may have
+pub lent_head : (most : ℕ) (words : List ℕ) → right_length most words ≡ true → 3 ≤ length words
+lent_head most words z = omega (arith, (right most words z).long)
 
-  module _ {X : Type 0} (down : X) (call : ℕ → State → X) where
-    pub lent_shut : hold ≡ false → down ≡ on_state most words beside down call
-    unfolding on_state
-    lent_shut z = rw (sym e ∙ z)
+pub lent_room : (most : ℕ) (words : List ℕ) → right_length most words ≡ true → room_of_words words ≤ most
+lent_room most words z = (right most words z).room_most
 
-    pub lent_open : hold ≡ true → (x : X) → x ≡ call (room_of_words words) (state_of words) → x ≡ on_state most words beside down call
-    unfolding on_state
-    lent_open z x f = rw (sym e ∙ z) f
-
-pub as_long : (old : List ℕ) (n : ℕ) → eqb (length old) n ≡ true → length old ≡ n
-as_long old n e = eqb-true (length old) n e
-
-pub two_put : (old : List ℕ) (x y : ℕ) → length old ≡ 2 → set (set old 0 x) 1 y ≡ x ∷ y ∷ []
-two_put [] x y h = absurd (omega arith)
-two_put (a ∷ []) x y h = absurd (omega arith)
-two_put (a ∷ b ∷ []) x y h = refl
-two_put (a ∷ b ∷ c ∷ old) x y h = absurd (omega arith)
+-- a place that there is room for is below the largest N
+pub below_most : (most : ℕ) (words : List ℕ) → right_length most words ≡ true → (r : Refusal) → Below (room_of_words words) r.place → Below most r.place
+below_most most words z r b = below_more (room_of_words words) most r.place (lent_room most words z) b

@@ -10,10 +10,7 @@ use layout::words::length_is_right;
 pub(crate) fn lengths_hold(words: &[u64], beside: bool) -> bool
     ensures { result ≡ (right_length max_places words.now && beside) }
 {
-    if length_is_right(words, Arbiter::MAX_PLACES) {
-        return beside;
-    }
-    false
+    length_is_right(words, Arbiter::MAX_PLACES) && beside
 }
 
 // An answer of two words.

@@ -5,22 +5,21 @@ ghost use Rattle.justrave.specs.Exported.{ordered};
 
 use ordered_bytes::order_bytes;
 use outcomes::codes::{WRONG_LENGTH, refusal_code};
-use terms::answers::WriteAnswer;
 
 // The bytes of the table in order into the buffer; the answer is how many (clause 8.3). Refused: 255; 8, 9 and 1 to 5 number by number, 17
 // behind each place; 10, 6, 15, 14 (clause 13.6).
+#[tactic(auto, using(crate::proofs::Queries::order_below, crate::proofs::Queries::one_put), unfolding(crate::specs::Exported::ordered))]
 pub fn justrave_order(table: &[u8], buffer: &mut [u8], answer: &mut [u64]) -> u64
     ensures { record { buffer = buffer.new; answer = answer.new; outcome = result } ≡ ordered max_places table.now buffer.old answer.old }
 {
     if answer.len() != 1 {
         return WRONG_LENGTH;
     }
-    let told = order_bytes(table, buffer);
-    match told {
-        WriteAnswer::Wrote(bytes) => {
+    match order_bytes(table, buffer) {
+        Ok(bytes) => {
             answer[0] = bytes as u64;
             0
         }
-        WriteAnswer::Refused(c) => refusal_code(c),
+        Err(c) => refusal_code(c),
     }
 }

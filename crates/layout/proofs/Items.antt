@@ -1,7 +1,7 @@
 -- How many items of one width stand behind a head; what a function gives at each place; and items that stand in words one behind the other:
 -- written and read back, and read and written back. The places of a state, of an old one, and the rows of a table given as numbers are
 -- cases. Assumes nothing.
-use Rattle.std.proofs.Common.{◌≡◌, refl, ap, sym, ◌∙◌, List, [], ◌∷◌, ◌++◌, map, append_assoc, true, ◌&&◌, ℕ, zero, suc, ◌+◌, ◌-◌, ◌*◌, ◌/◌, ◌≤◌, ◌<◌, arith, eqb-true, eq-eqb, eqb, length, get_or, drop, set, length-append}
+use Rattle.std.proofs.Common.{◌≡◌, refl, ap, sym, ◌∙◌, List, [], ◌∷◌, ◌++◌, map, append_assoc, true, ◌&&◌, ℕ, zero, suc, ◌+◌, ◌-◌, ◌*◌, ◌/◌, ◌≤◌, ◌<◌, arith, eqb-true, eq-eqb, eqb, length, get_or, drop, drop-cons, set, length-append}
 use native.Mathlib.Nat.{mul-div_cancel_left}
 use Rattle.lists.specs.Choices.{in_range}
 use Rattle.lists.specs.Sums.{joined}
@@ -88,6 +88,10 @@ paired_places c f g p zero = refl
 paired_places c f g p (suc n) = ap (λ l. c (f p) (g p) ∷ l) (paired_places c f g (suc p) n)
 
 -- ---- items in words
+
+-- the words from i on are word i, and those behind it
+pub drop_next : (words : List ℕ) (i j : ℕ) → j ≡ suc i → i < length words → drop i words ≡ get_or words i 0 ∷ drop j words
+drop_next words i j e h = drop-cons words i 0 h ∙ ap (λ x. get_or words i 0 ∷ drop x words) (sym e)
 
 pub record Items (X : Type 0) : Type 0 where
   pub width : ℕ

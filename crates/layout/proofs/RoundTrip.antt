@@ -1,6 +1,6 @@
 -- The places of a state as items, how many words a state has, and the round trip of a state and its words. Assumes nothing.
-use Rattle.std.proofs.Common.{◌≡◌, refl, ap, sym, ◌∙◌, true, List, [], ◌∷◌, ◌++◌, map, append-nil, ℕ, suc, ◌+◌, ◌*◌, ◌≤◌, ◌<◌, arith, length, get_or, drop, drop_of_length-le, drop-cons, get_or-append-add}
-use lib.Seq.{get_or-append_seam}
+use Rattle.std.proofs.Common.{◌≡◌, refl, ap, sym, ◌∙◌, true, List, [], ◌∷◌, ◌++◌, map, append-nil, ℕ, ◌+◌, ◌*◌, ◌≤◌, ◌<◌, arith, length, get_or, drop, drop_of_length-le, drop-cons}
+use Rattle.std.proofs.lemmas.Grind.{common_steps}
 use Rattle.lists.specs.Sums.{joined}
 use Rattle.lists.specs.Pairs.{paired}
 use Rattle.lists.specs.Places.{places_from}
@@ -12,9 +12,15 @@ use Rattle.terms.specs.State.{State, no_account, Shaped}
 use Rattle.terms.specs.Table.{no_requestor}
 use Rattle.layout.specs.Words.{place_start, word_count, room_of_words, right_length, head_words, Place, place, place_words, state_words, row_from, account_from, row_in, account_in, words_state}
 use Rattle.layout.specs.RoundTrip.{WordsReadBack, WordsShaped, StateWrittenBack}
-use Rattle.layout.proofs.Items.{rooms_behind, size_open, size_shut, length_places, at_place, map_places, paired_places, Items, written_read, read_written}
+use Rattle.layout.proofs.Items.{drop_next, rooms_behind, size_open, size_shut, length_places, at_place, map_places, paired_places, Items, written_read, read_written}
 
 -- ---- a place's six words
+
+pub place_read : (x : Place) (front rest : List ℕ) → (let words = front ++ (place_words x ++ rest) in place (row_from words (length front)) (account_from words (length front))) ≡ x
+place_read x front rest = grind (arith, common_steps)
+
+pub place_stands : (words : List ℕ) (at : ℕ) → at + 6 ≤ length words → place_words (place (row_from words at) (account_from words at)) ++ drop (at + 6) words ≡ drop at words
+place_stands words at h = grind (arith, common_steps, drop_next)
 
 unfoldable pub places : Items Place
 places = record {
@@ -24,33 +30,9 @@ places = record {
   at = place_start;
   next = λ p. omega arith;
   wide = λ x. refl;
-  read_write = λ x front rest.
-      let r = x.row in
-      let a = x.account in
-      rw (
-        get_or-append_seam front r.rate (r.burst ∷ r.need.0 ∷ r.within.0 ∷ a.credit ∷ a.backlog.0 ∷ rest) 0,
-        get_or-append-add front (place_words x ++ rest) 1 0,
-        get_or-append-add front (place_words x ++ rest) 2 0,
-        get_or-append-add front (place_words x ++ rest) 3 0,
-        get_or-append-add front (place_words x ++ rest) 4 0,
-        get_or-append-add front (place_words x ++ rest) 5 0,
-      );
-  write_read = λ words k h. sym (six words k h);
+  read_write = place_read;
+  write_read = place_stands;
 }
-  where
-    one : (words : List ℕ) (i j : ℕ) → j ≡ suc i → suc i ≤ length words → drop i words ≡ get_or words i 0 ∷ drop j words
-    one words i j e l = drop-cons words i 0 l ∙ ap (λ x. get_or words i 0 ∷ drop x words) (sym e)
-
-    -- the six words of a place
-    six : (words : List ℕ) (at : ℕ) → at + 6 ≤ length words
-        → drop at words ≡ get_or words at 0 ∷ get_or words (at + 1) 0 ∷ get_or words (at + 2) 0 ∷ get_or words (at + 3) 0 ∷ get_or words (at + 4) 0 ∷ get_or words (at + 5) 0 ∷ drop (at + 6) words
-    six words at h =
-        one words at (at + 1) (omega arith) (omega arith)
-        ∙ ap (λ l. get_or words at 0 ∷ l) (one words (at + 1) (at + 2) (omega arith) (omega arith)
-        ∙ ap (λ l. get_or words (at + 1) 0 ∷ l) (one words (at + 2) (at + 3) (omega arith) (omega arith)
-        ∙ ap (λ l. get_or words (at + 2) 0 ∷ l) (one words (at + 3) (at + 4) (omega arith) (omega arith)
-        ∙ ap (λ l. get_or words (at + 3) 0 ∷ l) (one words (at + 4) (at + 5) (omega arith) (omega arith)
-        ∙ ap (λ l. get_or words (at + 4) 0 ∷ l) (one words (at + 5) (at + 6) (omega arith) (omega arith))))))
 
 -- ---- how many words
 

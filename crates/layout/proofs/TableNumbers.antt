@@ -1,6 +1,6 @@
 -- The rows of a table given as numbers as items, and the round trip of a table and its numbers. Assumes nothing.
-use Rattle.std.proofs.Common.{◌≡◌, refl, ap, sym, ◌∙◌, [], ◌∷◌, ◌++◌, append-nil, suc, ◌+◌, ◌*◌, arith, eqb-true, eq-eqb, length, get_or, drop, drop_of_length-le, drop-cons, get_or-append-add}
-use lib.Seq.{get_or-append_seam}
+use Rattle.std.proofs.Common.{◌≡◌, refl, ap, sym, ◌∙◌, List, ℕ, [], ◌∷◌, ◌++◌, append-nil, ◌+◌, ◌*◌, ◌≤◌, arith, eqb-true, eq-eqb, length, get_or, drop, drop_of_length-le, drop-cons}
+use Rattle.std.proofs.lemmas.Grind.{common_steps}
 use Rattle.lists.specs.Sums.{joined}
 use Rattle.lists.proofs.Sums.{length_joined_same}
 use Rattle.terms.specs.declared.place.Requestor.{Requestor}
@@ -8,9 +8,15 @@ use Rattle.terms.specs.Table.{row_numbers}
 use Rattle.layout.specs.Words.{row_from}
 use Rattle.layout.specs.Numbers.{row_start, number_count, all_numbers, numbers_table}
 use Rattle.layout.specs.RoundTrip.{NumbersReadBack, TableWrittenBack}
-use Rattle.layout.proofs.Items.{Items, written_read, read_written}
+use Rattle.layout.proofs.Items.{drop_next, Items, written_read, read_written}
 
 -- a row's four numbers
+row_read : (r : Requestor) (front rest : List ℕ) → row_from (front ++ (row_numbers r ++ rest)) (length front) ≡ r
+row_read r front rest = grind (arith, common_steps)
+
+row_stands : (numbers : List ℕ) (k : ℕ) → k + 4 ≤ length numbers → row_numbers (row_from numbers k) ++ drop (k + 4) numbers ≡ drop k numbers
+row_stands numbers k h = grind (arith, common_steps, drop_next)
+
 unfoldable rows : Items Requestor
 rows = record {
   width = 4;
@@ -19,27 +25,8 @@ rows = record {
   at = row_start;
   next = λ p. omega arith;
   wide = λ r. refl;
-  read_write = λ r front rest. rw (
-    get_or-append_seam front r.rate (r.burst ∷ r.need.0 ∷ r.within.0 ∷ rest) 0,
-    get_or-append-add front (row_numbers r ++ rest) 1 0,
-    get_or-append-add front (row_numbers r ++ rest) 2 0,
-    get_or-append-add front (row_numbers r ++ rest) 3 0,
-  );
-  write_read = λ numbers k h.
-      let one : k + 1 ≡ suc k = omega arith in
-      let two : k + 2 ≡ suc (suc k) = omega arith in
-      let three : k + 3 ≡ suc (suc (suc k)) = omega arith in
-      let four : k + 4 ≡ suc (suc (suc (suc k))) = omega arith in
-      rw (
-        one,
-        two,
-        three,
-        four,
-        drop-cons numbers k 0 (omega arith),
-        drop-cons numbers (suc k) 0 (omega arith),
-        drop-cons numbers (suc (suc k)) 0 (omega arith),
-        drop-cons numbers (suc (suc (suc k))) 0 (omega arith),
-      );
+  read_write = row_read;
+  write_read = row_stands;
 }
 
 pub numbers_read_back : NumbersReadBack

@@ -11,6 +11,7 @@ use crate::numbers::{count_of, denominator_of, requestor_of};
 use crate::words::{clear, put_head, put_row, room_of};
 
 // D and N, and all else 0.
+#[tactic(auto, using(crate::proofs::RoundTrip::right, crate::proofs::Laid::head_laid))]
 pub fn lay_head(words: &mut [u64], d: u64, n: usize)
     requires { right_length max_places words.old ≡ true }
     ensures { state_of words.new ≡ with_table (no_state (room_of_words words.old)) (table_of (room_of_words words.old) d n []) }
@@ -20,6 +21,7 @@ pub fn lay_head(words: &mut [u64], d: u64, n: usize)
 }
 
 // The table that the numbers are; no other word changes. N is laid as it is: check 2 comes later.
+#[tactic(auto, using(crate::proofs::RoundTrip::right, crate::proofs::Laid::numbers_none, crate::proofs::Laid::numbers_more, crate::proofs::Laid::numbers_end))]
 pub fn lay(numbers: &[u32], words: &mut [u64])
     requires { (right_length max_places words.old ≡ true) × (length numbers.now ≡ number_count (room_of_words words.old)) }
     ensures { state_of words.new ≡ with_table (state_of words.old) (numbers_table (room_of_words words.old) numbers.now) }
@@ -28,10 +30,7 @@ pub fn lay(numbers: &[u32], words: &mut [u64])
     let d = denominator_of(numbers);
     let n = count_of(numbers);
     put_head(words, d, n);
-    let mut p: usize = 0;
-    while p < room {
-        let r = requestor_of(numbers, p);
-        put_row(words, p, r);
-        p = p + 1;
+    for p in 0..room {
+        put_row(words, p, requestor_of(numbers, p));
     }
 }

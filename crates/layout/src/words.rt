@@ -41,6 +41,7 @@ pub fn words_of(room: usize) -> usize
     HEAD + PLACE * room
 }
 
+#[tactic(auto, unfolding(crate::specs::Words::room_of_words))]
 pub fn room_of(words: &[u64]) -> usize
     requires { 3 ≤ length words.now }
     ensures { result ≡ room_of_words words.now }
@@ -49,6 +50,7 @@ pub fn room_of(words: &[u64]) -> usize
 }
 
 // As many words as a state has that has room for 1 to so many places.
+#[tactic(auto, unfolding(crate::specs::Words::right_length, crate::specs::Words::room_of_words))]
 pub fn length_is_right(words: &[u64], most: usize) -> bool
     ensures { result ≡ right_length most words.now }
 {
@@ -56,13 +58,7 @@ pub fn length_is_right(words: &[u64], most: usize) -> bool
         return false;
     }
     let room = room_of(words);
-    if words.len() != HEAD + PLACE * room {
-        return false;
-    }
-    if room < 1 {
-        return false;
-    }
-    room <= most
+    words.len() == HEAD + PLACE * room && 1 <= room && room <= most
 }
 
 pub fn denominator(words: &[u64]) -> u64
@@ -148,6 +144,7 @@ fn put_backlog(words: &mut [u64], p: usize, q: Transfers)
     words[HEAD + PLACE * p + BACKLOG] = q.0;
 }
 
+#[tactic(auto, unfolding(crate::specs::Words::put_account))]
 pub fn put_account(words: &mut [u64], p: usize, a: Account)
     requires { word_count (p + 1) ≤ length words.old }
     ensures { words.new ≡ put_account words.old p a }
@@ -156,29 +153,27 @@ pub fn put_account(words: &mut [u64], p: usize, a: Account)
     put_backlog(words, p, a.backlog);
 }
 
+#[tactic(auto, unfolding(crate::specs::Words::put_row))]
 pub fn put_row(words: &mut [u64], p: usize, r: Requestor)
     requires { word_count (p + 1) ≤ length words.old }
     ensures { words.new ≡ put_row words.old p r }
 {
     let at = HEAD + PLACE * p;
-    let j = r.need;
-    let l = r.within;
     words[at] = r.rate;
     words[at + BURST] = r.burst;
-    words[at + NEED] = j.0;
-    words[at + WITHIN] = l.0;
+    words[at + NEED] = r.need.0;
+    words[at + WITHIN] = r.within.0;
 }
 
 // Whether every word from place p on is 0. All of them are looked at, without a way out on the way: the compiler then takes several at once.
+#[tactic(auto, using(crate::proofs::Stores::zero_more, crate::proofs::Stores::all_zero_lem))]
 pub fn is_clear_from(words: &[u64], p: usize) -> bool
     requires { word_count p ≤ length words.now }
     ensures { result ≡ every is_zero (drop (place_start p) words.now) }
 {
-    let mut any: u64 = 0;
-    let mut i = HEAD + PLACE * p;
-    while i < words.len() {
-        any = any | words[i];
-        i = i + 1;
+    let mut any = 0;
+    for word in &words[HEAD + PLACE * p..] {
+        any |= *word;
     }
     any == 0
 }
@@ -187,9 +182,5 @@ pub fn is_clear_from(words: &[u64], p: usize) -> bool
 pub fn clear(words: &mut [u64])
     ensures { words.new ≡ replicate (length words.old) 0 }
 {
-    let mut i: usize = 0;
-    while i < words.len() {
-        words[i] = 0;
-        i = i + 1;
-    }
+    words.fill(0);
 }

@@ -1,14 +1,13 @@
 -- Clause 6.3: how far a place is ahead of its rate over a log, or below 0 how far behind: D for each byte that is the place, less its rate
 -- for each byte of the log.
-use Rattle.std.specs.Prelude.{List, ℕ, ◌*◌, ℤ, pos, ◌-ℤ◌, length}
+use Rattle.std.specs.Prelude.{List, ℕ, ◌*◌, ℤ, pos, ◌-ℤ◌, length, Result, Ok, Err}
 use Rattle.terms.specs.declared.refusals.Refusal.{Refusal}
+use Rattle.terms.specs.declared.refusals.Cause.{Cause}
 use Rattle.terms.specs.Table.{Table, requestor_at}
 use Rattle.terms.specs.State.{State, place_verdict}
 use Rattle.terms.specs.Refusals.{Verdict, refusal_of, then, resolve}
 use Rattle.terms.specs.Input.{input_verdict}
 use Rattle.lead_parts.specs.Counts.{bytes_equal}
-use Rattle.terms.specs.declared.answers.LeadAnswer as code
-use Rattle.terms.specs.declared.answers.LeadAnswer.TheVariants as code_answer
 
 -- the lead of place p with rate n (clause 6.3)
 unfoldable pub lead_of : (d n p : ℕ) → List ℕ → ℤ
@@ -34,6 +33,6 @@ lead_query limit s p log =
     refused
 
 -- the code's answer in these values
-abbrev pub lead_answer_of : code.LeadAnswer → LeadAnswer
-lead_answer_of (code_answer.Lead x) = lead x
-lead_answer_of (code_answer.Refused c) = refused (refusal_of c)
+abbrev pub lead_answer_of : Result ℤ Cause → LeadAnswer
+lead_answer_of (Ok x) = lead x
+lead_answer_of (Err c) = refused (refusal_of c)

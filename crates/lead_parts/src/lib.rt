@@ -9,20 +9,12 @@ ghost use Rattle.lead_parts.specs.Counts.{bytes_equal};
 use terms::units::{Slots, Transfers};
 
 // The transfers that a log grants to place p: its bytes equal to p.
+#[tactic(auto, using(crate::proofs::Counts::counted_bytes))]
 pub fn count_grants(log: &[u8], p: usize) -> Transfers
     requires { length log.now ≤ max_input }
     ensures { result.0 ≡ bytes_equal p log.now }
 {
-    let mut k: u64 = 0;
-    let mut i: usize = 0;
-    while i < log.len() {
-        let x = log[i] as usize;
-        if x == p {
-            k = k + 1;
-        }
-        i = i + 1;
-    }
-    Transfers(k)
+    Transfers(log.iter().filter(|byte| **byte as usize == p).count() as u64)
 }
 
 // D times the grants, less n times the slots.

@@ -1,40 +1,19 @@
 -- Texts put one behind the other at the start of a buffer, and the lines that are made of them. Assumes nothing.
-use Rattle.std.proofs.Common.{◌≡◌, refl, ap, sym, ◌∙◌, List, [], ◌∷◌, ◌++◌, map, append-nil, append_assoc, ℕ, suc, ◌+◌, ◌≤◌, ◌<◌, arith, length, get_or, set, take, drop, length-append, length-set, take_all}
+use Rattle.std.proofs.Common.{◌≡◌, refl, ap, sym, ◌∙◌, List, [], ◌∷◌, ◌++◌, map, append-nil, append_assoc, ℕ, Option, suc, ◌+◌, ◌-◌, ◌≤◌, ◌<◌, arith, length, get_or, take, drop, length-append}
+use borrow.Rule.Slice.PartMut.{put_mid}
 use Rattle.lists.specs.Sums.{joined}
 use Rattle.lists.specs.Overwriting.{written_over}
 use Rattle.lists.proofs.Sums.{total_take_rises, joined_next, length_joined}
-use Rattle.lists.proofs.Overwriting.{overwrite_more}
-use Rattle.lists.proofs.Putting.{Put, put_none}
+use Rattle.lists.proofs.Putting.{Put, put_none, put_room, put_next, put_whole}
 use Rattle.terms.specs.declared.place.Account.{Account}
 use Rattle.terms.specs.State.{State, no_account, account_at}
-use Rattle.rule.specs.declared.rule.Grant.{Grant}
+use Rattle.terms.specs.Limits.{max_places}
+use Rattle.layout.specs.Words.{word_count, room_of_words, account_in, state_of}
+use Rattle.layout.proofs.RoundTrip.{words_shaped, account_at_lem}
+use Rattle.admission.specs.Checked.{Counted}
+use Rattle.admission.proofs.Rows.{count_word, head_there, within_room}
 use Rattle.lines.specs.Text.{decimal, spaced, line}
 use Rattle.lines.specs.Lines.{place_item, credit_item, credit_items, slot_line}
-
--- ---- a text copied byte by byte
-
--- the first i bytes of the text stand in front of what the buffer held
-pub record Copied (text old buffer : List ℕ) (i : ℕ) : Type 0 where
-  pub within : i ≤ length text
-  pub long : length buffer ≡ length old
-  pub same : buffer ≡ take i text ++ drop i old
-
-pub copied_none : (text old : List ℕ) → Copied text old old 0
-copied_none text old = record { within = omega arith; long = refl; same = refl }
-
-module _ {text old buffer : List ℕ} {i : ℕ} (s : Copied text old buffer i) where
-  pub copied_next : length text ≤ length old → i < length text → Copied text old (set buffer i (get_or text i 0)) (i + 1)
-  copied_next fits h = record {
-    within = omega arith;
-    long = simp length-set s.long;
-    same = overwrite_more 0 text old buffer i (get_or text i 0) h (omega arith) s.same refl;
-  }
-
-  pub copied_all : length text ≤ i → (i ≡ length text) × (buffer ≡ written_over text old)
-  unfolding written_over
-  copied_all h =
-      let all : i ≡ length text = omega (arith, s.within) in
-      (all, s.same ∙ rw (all, take_all (length text) text (omega arith)))
 
 -- ---- items and lines
 
@@ -88,22 +67,52 @@ pub credits_none : (accounts : List Account) (old : List ℕ) → Put (credits_t
 unfolding joined
 credits_none accounts old = put_none old
 
--- they fit where those of all n fit
-pub credits_fit : (accounts : List Account) (p n room : ℕ) → p < n → n ≤ length accounts → length (credits_to n accounts) ≤ room
-    → length (credits_to p accounts) + length (spaced_credit (account_at p accounts)) ≤ room
-credits_fit accounts p n room h inside fits =
-    let next : length (credits_to (p + 1) accounts) ≡ length (credits_to p accounts) + length (spaced_credit (account_at p accounts)) =
-    ap length (joined_next spaced_credit no_account accounts p (omega arith)) ∙ length-append (credits_to p accounts) (spaced_credit (account_at p accounts)) in
-    omega (arith, next, length_joined spaced_credit (take (p + 1) accounts), length_joined spaced_credit (take n accounts), total_take_rises (λ a. length (spaced_credit a)) (p + 1) n accounts (omega arith))
+-- those of words that have room for their N places
+module _ (words : List ℕ) (counted : Counted max_places words) where
+  pub words_there : 3 ≤ length words
+  words_there = head_there words max_places counted.right
 
--- one credit more
-pub credits_next : (accounts : List Account) (p : ℕ) {old buffer : List ℕ} {k : ℕ} → p < length accounts
-    → Put (credits_to p accounts ++ spaced_credit (account_at p accounts)) old buffer k → Put (credits_to (p + 1) accounts) old buffer k
-credits_next accounts p h e = rw (joined_next spaced_credit no_account accounts p h) e
+  pub account_there : (p : ℕ) → p < get_or words 1 0 → word_count (p + 1) ≤ length words
+  account_there p h = within_room words _ words_there (omega (arith, count_word words, counted.count_most))
+
+  inside : (state_of words).table.count ≤ length (state_of words).accounts
+  inside = rw (words_shaped (room_of_words words) words).accounts counted.count_most
+
+  -- put in a buffer that has room for all of them, as far as place p
+  module _ (old : List ℕ) (fits : length (joined spaced (credit_items (state_of words))) ≤ length old) (p : ℕ) (h : p < get_or words 1 0) {a : Account} (same : a ≡ account_in words p)
+      {buffer : List ℕ} {at : ℕ} (sofar : Put (credits_to p (state_of words).accounts) old buffer at) where
+    below : p < (state_of words).table.count
+    below = omega (arith, count_word words)
+
+    here : account_at p (state_of words).accounts ≡ a
+    here = account_at_lem (room_of_words words) words p (omega (arith, below, counted.count_most)) ∙ sym same
+
+    next : credits_to (p + 1) (state_of words).accounts ≡ credits_to p (state_of words).accounts ++ spaced_credit a
+    next = joined_next spaced_credit no_account (state_of words).accounts p (omega (arith, below, inside)) ∙ ap (λ x. credits_to p (state_of words).accounts ++ spaced_credit x) here
+
+    -- there is room for one more
+    fit : length (credits_to p (state_of words).accounts) + length (spaced_credit a) ≤ length old
+    fit =
+        let accounts = (state_of words).accounts in
+        let n = (state_of words).table.count in
+        let rises = total_take_rises (λ x. length (spaced_credit x)) (p + 1) n accounts (omega (arith, below)) in
+        omega (arith, ap length (credits_all (state_of words)), ap length next, length-append (credits_to p accounts) (spaced_credit a), length_joined spaced_credit (take (p + 1) accounts), length_joined spaced_credit (take n accounts), rises)
+
+    pub credit_room : length (spaced_credit a) ≤ length (take (length buffer - at) (drop at buffer))
+    credit_room = put_room sofar (spaced_credit a) fit
+
+    pub credit_next : {wrote : ℕ} {part : List ℕ} → (wrote ≡ length (spaced_credit a)) × (part ≡ written_over (spaced_credit a) (take (length buffer - at) (drop at buffer)))
+        → Put (credits_to (p + 1) (state_of words).accounts) old (put_mid at (length buffer - at) buffer part) (at + wrote)
+    credit_next e = rw next (put_next sofar (spaced_credit a) fit e)
+
+  -- and as far as N
+  pub credits_put : {old buffer : List ℕ} {p at : ℕ} → p ≡ get_or words 1 0 → Put (credits_to p (state_of words).accounts) old buffer at
+      → (at ≡ length (joined spaced (credit_items (state_of words)))) × (buffer ≡ written_over (joined spaced (credit_items (state_of words))) old)
+  credits_put e sofar = put_whole sofar (ap (λ k. credits_to k (state_of words).accounts) (e ∙ count_word words) ∙ credits_all (state_of words))
 
 -- ---- the line of a slot
 
-module _ (stamp : ℕ) (g : Grant) (after : State) where
+module _ (stamp : ℕ) (g : Option ℕ) (after : State) where
   pub slot_text : ((decimal stamp ++ spaced (place_item g)) ++ joined spaced (credit_items after)) ++ (10 ∷ []) ≡ slot_line stamp g after
   unfolding slot_line
   slot_text = line_text (decimal stamp) (place_item g) (credit_items after)

@@ -1,10 +1,8 @@
 -- The lines that slotlist prints: the header, a slot's and the end's of clause 14.2, and a refusal's of clause 14.3.
-use Rattle.std.specs.Prelude.{List, [], ◌∷◌, map, ℕ, take}
+use Rattle.std.specs.Prelude.{List, [], ◌∷◌, map, ℕ, Option, Some, None, take}
 use Rattle.terms.specs.declared.refusals.Refusal.{Refusal}
 use Rattle.terms.specs.declared.place.Account.{Account}
 use Rattle.terms.specs.State.{State, credit}
-use Rattle.rule.specs.declared.rule.Grant.{Grant}
-use Rattle.rule.specs.declared.rule.Grant.TheVariants.{Nobody, Place}
 use Rattle.lines.specs.Text.{decimal, line}
 
 -- clause 14.2: the header, slot place credits
@@ -20,9 +18,9 @@ unfoldable pub refused_line : Refusal → List ℕ
 refused_line r = line (114 ∷ 101 ∷ 102 ∷ 117 ∷ 115 ∷ 101 ∷ 100 ∷ []) (decimal r.number ∷ [])
 
 -- the place granted, or -
-abbrev pub place_item : Grant → List ℕ
-place_item Nobody = 45 ∷ []
-place_item (Place p) = decimal p
+abbrev pub place_item : Option ℕ → List ℕ
+place_item None = 45 ∷ []
+place_item (Some p) = decimal p
 
 -- the credits from place 0 on
 abbrev pub credit_item : Account → List ℕ
@@ -32,5 +30,5 @@ abbrev pub credit_items : State → List (List ℕ)
 credit_items s = map credit_item (take s.table.count s.accounts)
 
 -- clause 14.2: the line of a slot; its credits are those of the state after it
-unfoldable pub slot_line : (stamp : ℕ) → Grant → (after : State) → List ℕ
-slot_line stamp g after = line (decimal stamp) (place_item g ∷ credit_items after)
+unfoldable pub slot_line : (stamp : ℕ) → (granted : Option ℕ) → (after : State) → List ℕ
+slot_line stamp granted after = line (decimal stamp) (place_item granted ∷ credit_items after)

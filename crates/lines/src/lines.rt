@@ -11,10 +11,11 @@ ghost use Rattle.lines.specs.Lines.{header, end_line, refused_line, place_item, 
 
 use crate::text::{put, put_item, put_number};
 use layout::words::{account, count};
-use rule::rule::Grant;
+use terms::answers::Slot;
 use terms::refusals::Cause;
 use terms::units::Slots;
 
+#[tactic(auto, unfolding(crate::specs::Lines::header, crate::specs::Text::line, crate::specs::Text::spaced, lists::specs::Sums::joined))]
 pub fn put_header(out: &mut [u8]) -> usize
     requires { length header ≤ length out.old }
     ensures wrote { result ≡ length header }
@@ -24,26 +25,28 @@ pub fn put_header(out: &mut [u8]) -> usize
 }
 
 // A line of a word and a number.
+#[tactic(auto, using(lists::proofs::Overwriting::length_over, crate::proofs::Writing::two_length), unfolding(crate::specs::Text::spaced, lists::specs::Overwriting::written_over))]
 fn put_line(word: &[u8], n: u64, out: &mut [u8]) -> usize
     requires { length (line word.now (decimal n ∷ [])) ≤ length out.old }
     ensures wrote { result ≡ length (line word.now (decimal n ∷ [])) }
     ensures text { out.new ≡ written_over (line word.now (decimal n ∷ [])) out.old }
 {
     let mut at = put(word, out);
-    at = at + put_item(n, &mut out[at..]);
+    at += put_item(n, &mut out[at..]);
     out[at] = b'\n';
     at + 1
 }
 
+#[tactic(auto, unfolding(crate::specs::Lines::refused_line))]
 pub fn put_refused(why: Cause, out: &mut [u8]) -> usize
     requires { length (refused_line (refusal_of why)) ≤ length out.old }
     ensures wrote { result ≡ length (refused_line (refusal_of why)) }
     ensures text { out.new ≡ written_over (refused_line (refusal_of why)) out.old }
 {
-    let r = why.refusal();
-    put_line(b"refused", r.number as u64, out)
+    put_line(b"refused", why.refusal().number as u64, out)
 }
 
+#[tactic(auto, unfolding(crate::specs::Lines::end_line))]
 pub fn put_end(slots: Slots, out: &mut [u8]) -> usize
     requires { length (end_line slots.0) ≤ length out.old }
     ensures wrote { result ≡ length (end_line slots.0) }
@@ -58,38 +61,36 @@ fn put_credits(words: &[u64], out: &mut [u8]) -> usize
     ensures wrote { result ≡ length (joined spaced (credit_items (state_of words.now))) }
     ensures text { out.new ≡ written_over (joined spaced (credit_items (state_of words.now))) out.old }
 {
-    let n = count(words);
-    let mut at: usize = 0;
-    let mut p: usize = 0;
-    while p < n {
-        let a = account(words, p);
-        at = at + put_item(a.credit, &mut out[at..]);
-        p = p + 1;
+    let mut at = 0;
+    for p in 0..count(words) {
+        at += put_item(account(words, p).credit, &mut out[at..]);
     }
     at
 }
 
 // The place granted, or -.
-fn put_place(g: Grant, out: &mut [u8]) -> usize
-    requires { length (spaced (place_item g)) ≤ length out.old }
-    ensures wrote { result ≡ length (spaced (place_item g)) }
-    ensures text { out.new ≡ written_over (spaced (place_item g)) out.old }
+#[tactic(auto, unfolding(crate::specs::Text::spaced))]
+fn put_place(granted: Option<usize>, out: &mut [u8]) -> usize
+    requires { length (spaced (place_item granted)) ≤ length out.old }
+    ensures wrote { result ≡ length (spaced (place_item granted)) }
+    ensures text { out.new ≡ written_over (spaced (place_item granted)) out.old }
 {
-    match g {
-        Grant::Nobody => put(b" -", out),
-        Grant::Place(p) => put_item(p as u64, out),
+    match granted {
+        None => put(b" -", out),
+        Some(p) => put_item(p as u64, out),
     }
 }
 
-// The line of a slot: its stamp, whom it granted, and the credits after it.
-pub fn put_slot(stamp: Slots, g: Grant, after: &[u64], out: &mut [u8]) -> usize
-    requires { Counted max_places after.now × (length (slot_line stamp.0 g (state_of after.now)) ≤ length out.old) }
-    ensures wrote { result ≡ length (slot_line stamp.0 g (state_of after.now)) }
-    ensures text { out.new ≡ written_over (slot_line stamp.0 g (state_of after.now)) out.old }
+// The line of a slot: its stamp, the place granted, and the credits after it.
+#[tactic(auto, using(lists::proofs::Overwriting::length_over, crate::proofs::Writing::slot_length), unfolding(crate::specs::Text::spaced, lists::specs::Overwriting::written_over))]
+pub fn put_slot(slot: Slot, after: &[u64], out: &mut [u8]) -> usize
+    requires { Counted max_places after.now × (length (slot_line slot.stamp.0 slot.granted (state_of after.now)) ≤ length out.old) }
+    ensures wrote { result ≡ length (slot_line slot.stamp.0 slot.granted (state_of after.now)) }
+    ensures text { out.new ≡ written_over (slot_line slot.stamp.0 slot.granted (state_of after.now)) out.old }
 {
-    let mut at = put_number(stamp.0, out);
-    at = at + put_place(g, &mut out[at..]);
-    at = at + put_credits(after, &mut out[at..]);
+    let mut at = put_number(slot.stamp.0, out);
+    at += put_place(slot.granted, &mut out[at..]);
+    at += put_credits(after, &mut out[at..]);
     out[at] = b'\n';
     at + 1
 }

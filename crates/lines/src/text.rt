@@ -3,20 +3,18 @@ ghost use Rattle.std.specs.Prelude.{◌≡◌, ◌≤◌, ◌+◌, length};
 ghost use Rattle.lists.specs.Overwriting.{written_over};
 ghost use Rattle.lines.specs.Text.{decimal, spaced};
 
+#[tactic(auto, unfolding(lists::specs::Overwriting::written_over))]
 pub(crate) fn put(text: &[u8], out: &mut [u8]) -> usize
     requires { length text.now ≤ length out.old }
     ensures wrote { result ≡ length text.now }
     ensures text { out.new ≡ written_over text.now out.old }
 {
-    let mut i: usize = 0;
-    while i < text.len() {
-        out[i] = text[i];
-        i = i + 1;
-    }
-    i
+    out[..text.len()].copy_from_slice(text);
+    text.len()
 }
 
 // A number in decimal.
+#[tactic(auto, using(crate::proofs::Digits::decimal_put, lists::proofs::Putting::put_named))]
 pub(crate) fn put_number(n: u64, out: &mut [u8]) -> usize
     requires { length (decimal n) ≤ length out.old }
     ensures wrote { result ≡ length (decimal n) }
@@ -28,6 +26,7 @@ pub(crate) fn put_number(n: u64, out: &mut [u8]) -> usize
 }
 
 // A number as an item behind another.
+#[tactic(auto, using(lists::proofs::Overwriting::length_over), unfolding(crate::specs::Text::spaced, lists::specs::Overwriting::written_over))]
 pub(crate) fn put_item(n: u64, out: &mut [u8]) -> usize
     requires { length (spaced (decimal n)) ≤ length out.old }
     ensures wrote { result ≡ length (spaced (decimal n)) }

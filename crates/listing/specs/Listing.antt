@@ -1,7 +1,7 @@
 -- What slotlist prints is `listing` of its input bytes (clauses 14.1 to 14.4). It is told in steps: each has a text, and is the last one or
 -- hands on a state and the rest of the input. A step is the program's telling of its calls and no call itself: a refusal is a line here.
 -- What a step reads of the input stands in reads. `limit` is the largest N throughout.
-use Rattle.std.specs.Prelude.{List, [], ◌∷◌, ◌++◌, ℕ, zero, suc, eqb, length}
+use Rattle.std.specs.Prelude.{List, [], ◌∷◌, ◌++◌, ℕ, Some, None, zero, suc, eqb, length}
 use Rattle.lists.specs.Choices.{pick}
 use Rattle.lists.specs.Runs.{Result}
 use Rattle.terms.specs.State.{State, sound}
@@ -9,7 +9,6 @@ use Rattle.terms.specs.Refusals.{refusal}
 use Rattle.terms.specs.Answers.{Answer, accepted, granted, idle, refused, unless}
 use Rattle.terms.specs.Start.{no_state}
 use Rattle.table_bytes.specs.Reading.{Read, read, stop}
-use Rattle.rule.specs.declared.rule.Grant.TheVariants.{Nobody, Place}
 use Rattle.rule.specs.Calls.{post, slot, called}
 use Rattle.lines.specs.Lines.{header, end_line, refused_line, slot_line}
 use Rattle.reads.specs.Reads.{counts_read, begun}
@@ -38,8 +37,8 @@ post_and_slot limit s counts =
 -- Clauses 14.2 and 14.3: a slot's line and the state after it, or a refusal's in its place and the state before the slot's counts. A slot
 -- is never just accepted.
 unfoldable pub slot_output : (before : State) → Answer → (after : State) → (rest : List ℕ) → Step
-slot_output before (granted stamp p) after rest = more (slot_line stamp (Place p) after) after rest
-slot_output before (idle stamp) after rest = more (slot_line stamp Nobody after) after rest
+slot_output before (granted stamp p) after rest = more (slot_line stamp (Some p) after) after rest
+slot_output before (idle stamp) after rest = more (slot_line stamp None after) after rest
 slot_output before (refused why) after rest = last (refused_line why) before
 slot_output before accepted after rest = last [] before
 

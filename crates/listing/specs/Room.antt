@@ -1,6 +1,6 @@
 -- A step's text in a lent buffer (clause 14.5). A buffer with so much room takes any step's text; with less the step does nothing and
 -- says so.
-use Rattle.std.specs.Prelude.{List, ℕ, ◌+◌, ◌*◌, leb, length, take, drop}
+use Rattle.std.specs.Prelude.{List, ℕ, ◌+◌, ◌*◌, leb, length, take}
 use Rattle.lists.specs.Choices.{pick}
 use Rattle.lists.specs.Overwriting.{written_over}
 use Rattle.terms.specs.State.{State}
@@ -35,22 +35,17 @@ written t old = written_out t (written_over (text_of t) old)
 abbrev pub in_buffer : ℕ → Step → (given : State) → (old : List ℕ) → Outcome
 in_buffer limit t given old = pick (leb (line_room limit) (length old)) (written t old) (no_room given old)
 
--- the code's result and the lent buffer in these values; `bytes` is what the step was given of the input
-abbrev pub output_of : List ℕ → Output → State → (buffer : List ℕ) → Outcome
-output_of bytes (More wrote taken) s buffer = written_out (more (take wrote buffer) s (drop taken bytes)) buffer
-output_of bytes (Last wrote) s buffer = written_out (last (take wrote buffer) s) buffer
-output_of bytes NoRoom s buffer = no_room s buffer
+-- the code's result and the lent buffer in these values
+abbrev pub output_of : Output → State → (buffer : List ℕ) → Outcome
+output_of (More wrote rest) s buffer = written_out (more (take wrote buffer) s rest.now) buffer
+output_of (Last wrote) s buffer = written_out (last (take wrote buffer) s) buffer
+output_of NoRoom s buffer = no_room s buffer
 
-abbrev pub outcome_of : List ℕ → StepResult → (buffer : List ℕ) → Outcome
-outcome_of bytes r buffer = output_of bytes r.output (held r.state) buffer
+abbrev pub outcome_of : StepResult → (buffer : List ℕ) → Outcome
+outcome_of r buffer = output_of r.output (held r.state) buffer
 
--- how many bytes of the input a step took, and how many of the buffer it wrote
-abbrev pub taken_by : Output → ℕ
-taken_by (More wrote taken) = taken
-taken_by (Last wrote) = 0
-taken_by NoRoom = 0
-
+-- how many bytes of the buffer a step wrote
 abbrev pub wrote_by : Output → ℕ
-wrote_by (More wrote taken) = wrote
+wrote_by (More wrote rest) = wrote
 wrote_by (Last wrote) = wrote
 wrote_by NoRoom = 0

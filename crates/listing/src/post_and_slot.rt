@@ -1,55 +1,46 @@
 // A slot with its counts (clause 14.1).
 ghost use Rattle.std.specs.Prelude.{◌≡◌};
 ghost use Rattle.terms.specs.Limits.{max_places};
-ghost use Rattle.arbiter.specs.ByValue.{held};
-ghost use Rattle.calls.specs.ByValue.{post_result_of, slot_result_of};
+ghost use Rattle.arbiter.specs.ByValue.{held, result_of};
+ghost use Rattle.calls.specs.ByValue.{slot_result_of};
 ghost use Rattle.listing.specs.Listing.{posted, post_and_slot};
 
 use arbiter::state::Arbiter;
-use calls::post::{PostResult, post};
-use calls::slot::{SlotResult, slot};
-use terms::answers::{PostAnswer, SlotAnswer};
+use calls::post::post;
+use calls::slot::slot;
+use terms::answers::{Outcome, Slot};
 use terms::units::Transfers;
 
 // The counts are posted from place 0 on, until one is refused.
-fn post_counts(s: Arbiter, counts: &[u32]) -> PostResult
-    ensures { post_result_of result ≡ posted max_places (held s) 0 counts.now }
+#[tactic(auto, unfolding(crate::specs::Listing::posted))]
+fn post_counts(s: Arbiter, counts: &[u32]) -> Outcome<Arbiter, ()>
+    ensures { result_of result ≡ posted max_places (held s) 0 counts.now }
 {
     let mut state = s;
-    let mut p: usize = 0;
-    while p < counts.len() {
-        let count = counts[p];
-        let done = post(state, p, Transfers(count as u64));
-        let next = done.state;
-        let answer = done.answer;
-        match answer {
-            PostAnswer::Accepted => {
-                state = next;
-            }
-            PostAnswer::Refused(_) => {
-                return done;
-            }
+    for (p, count) in counts.iter().enumerate() {
+        let done = post(state, p, Transfers(*count as u64));
+        match done.answer {
+            Ok(()) => state = done.after,
+            Err(_) => return done,
         }
-        p = p + 1;
     }
-    PostResult {
-        state: state,
-        answer: PostAnswer::Accepted,
+    Outcome {
+        after: state,
+        answer: Ok(()),
     }
 }
 
 // The counts are posted, and then the slot is done.
-pub(crate) fn post_and_slot(s: Arbiter, counts: &[u32]) -> SlotResult
+#[tactic(auto, unfolding(crate::specs::Listing::post_and_slot))]
+pub(crate) fn post_and_slot(s: Arbiter, counts: &[u32]) -> Outcome<Arbiter, Slot>
     ensures { slot_result_of result ≡ post_and_slot max_places (held s) counts.now }
 {
-    let posted = post_counts(s, counts);
-    let ready = posted.state;
-    let answer = posted.answer;
+    let Outcome { after, answer } = post_counts(s, counts);
     match answer {
-        PostAnswer::Accepted => slot(ready),
-        PostAnswer::Refused(c) => SlotResult {
-            state: ready,
-            answer: SlotAnswer::Refused(c),
+        Ok(()) => slot(after),
+        Err(why) => Outcome {
+            after,
+            answer: Err(why),
         },
     }
 }

@@ -1,51 +1,48 @@
-// The steps of slotlist (section 14): each puts its text at the start of a lent buffer, and hands on the state and how much of the input it
-// took.
-ghost use Rattle.std.specs.Prelude.{◌≡◌, true, List, ℕ, ◌≤◌, length, drop};
+// The steps of slotlist (section 14): each puts its text at the start of a lent buffer, and hands on the state and the rest of the input.
+ghost use Rattle.std.specs.Prelude.{◌≡◌, true, ◌≤◌, length};
 ghost use Rattle.terms.specs.Limits.{max_places};
 ghost use Rattle.terms.specs.Refusals.{refusal_of};
+ghost use Rattle.terms.specs.Answers.{slot_answer_of};
 ghost use Rattle.terms.specs.State.{sound};
 ghost use Rattle.terms.specs.Start.{no_state};
 ghost use Rattle.arbiter.specs.ByValue.{held};
-ghost use Rattle.terms.specs.Answers.{slot_answer_of};
 ghost use Rattle.lines.specs.Lines.{refused_line};
 ghost use Rattle.reads.specs.Reads.{counts_read};
 ghost use Rattle.listing.specs.Listing.{last, slot_output, slot_step, step, first_step};
-ghost use Rattle.listing.specs.Room.{line_room, in_buffer, written, outcome_of, taken_by, wrote_by};
+ghost use Rattle.listing.specs.Room.{line_room, in_buffer, written, outcome_of, wrote_by};
 
 use crate::post_and_slot::post_and_slot;
 use arbiter::state::Arbiter;
-use calls::slot::SlotResult;
 use layout::words::{count, slot_number};
 use lines::lines::{put_end, put_header, put_refused, put_slot};
-use reads::beginning::{Beginning, begin};
-use reads::counts::{Counted, read_counts};
-use rule::rule::Grant;
+use reads::beginning::begin;
+use reads::counts::read_counts;
 use soundness::soundness::is_sound;
-use terms::answers::SlotAnswer;
+use terms::answers::{Outcome, Slot};
 use terms::refusals::{Cause, StateRefusal};
 
 // Room for any step's text: a line has at most a stamp, a place and a credit to each place, of 20 digits and a byte behind them.
 pub const LINE_ROOM: usize = (2 + Arbiter::MAX_PLACES) * 21;
 
-// How many bytes of the buffer a step wrote, and how many of the input it took. Without room it does nothing.
+// How many bytes of the buffer a step wrote, and the rest of the input if it goes on. Without room it does nothing.
 #[derive(Clone, Copy)]
-pub enum Output {
-    More(usize, usize),
+pub enum Output<'a> {
+    More(usize, &'a [u8]),
     Last(usize),
     NoRoom,
 }
 
 #[derive(Clone, Copy)]
-pub struct StepResult {
+pub struct StepResult<'a> {
     pub state: Arbiter,
-    pub output: Output,
+    pub output: Output<'a>,
 }
 
 // The refusal's line, and the state as it was.
-fn refuse(s: Arbiter, why: Cause, out: &mut [u8]) -> StepResult
+#[tactic(auto, using(crate::proofs::Telling::refused_few, crate::proofs::Telling::text_taken))]
+fn refuse<'a>(s: Arbiter, why: Cause, out: &mut [u8]) -> StepResult<'a>
     requires { line_room max_places ≤ length out.old }
-    ensures value { (bytes : List ℕ) → outcome_of bytes result out.new ≡ written (last (refused_line (refusal_of why)) (held s)) out.old }
-    ensures took { taken_by result.output ≡ 0 }
+    ensures value { outcome_of result out.new ≡ written (last (refused_line (refusal_of why)) (held s)) out.old }
     ensures wrote { wrote_by result.output ≤ length out.old }
 {
     StepResult {
@@ -54,54 +51,46 @@ fn refuse(s: Arbiter, why: Cause, out: &mut [u8]) -> StepResult
     }
 }
 
-// What a slot came to, whose counts took so many bytes: its line, or the refusal's.
-fn tell(before: Arbiter, done: SlotResult, taken: usize, out: &mut [u8]) -> StepResult
-    requires { (line_room max_places ≤ length out.old) × ((held done.state).table.count ≤ max_places) }
-    ensures value { (bytes : List ℕ) → outcome_of bytes result out.new ≡ written (slot_output (held before) (slot_answer_of done.answer) (held done.state) (drop taken bytes)) out.old }
-    ensures took { taken_by result.output ≤ taken }
+// What a slot came to, behind whose counts stands this rest: its line, or the refusal's.
+#[tactic(auto, using(crate::proofs::Telling::counted, crate::proofs::Telling::slot_few, crate::proofs::Telling::text_taken), unfolding(crate::specs::Listing::slot_output))]
+fn tell<'a>(
+    before: Arbiter,
+    done: Outcome<Arbiter, Slot>,
+    rest: &'a [u8],
+    out: &mut [u8],
+) -> StepResult<'a>
+    requires { (line_room max_places ≤ length out.old) × ((held done.after).table.count ≤ max_places) }
+    ensures value { outcome_of result out.new ≡ written (slot_output (held before) (slot_answer_of done.answer) (held done.after) rest.now) out.old }
     ensures wrote { wrote_by result.output ≤ length out.old }
 {
-    let after = done.state;
-    let words = after.words;
-    let answer = done.answer;
-    match answer {
-        SlotAnswer::Granted(stamp, p) => StepResult {
-            state: after,
-            output: Output::More(put_slot(stamp, Grant::Place(p), &words, out), taken),
+    match done.answer {
+        Ok(slot) => StepResult {
+            state: done.after,
+            output: Output::More(put_slot(slot, &done.after.words, out), rest),
         },
-        SlotAnswer::Idle(stamp) => StepResult {
-            state: after,
-            output: Output::More(put_slot(stamp, Grant::Nobody, &words, out), taken),
-        },
-        SlotAnswer::Refused(c) => refuse(before, c, out),
+        Err(why) => refuse(before, why, out),
     }
 }
 
 // A slot of a sound state: its counts are read and posted, and the slot is done.
-fn slot_step(s: Arbiter, rest: &[u8], out: &mut [u8]) -> StepResult
+#[tactic(auto, using(crate::proofs::Telling::sound_few, crate::proofs::Telling::post_and_slot_few, admission::proofs::Rows::count_word), unfolding(crate::specs::Listing::slot_step))]
+fn slot_step<'a>(s: Arbiter, rest: &'a [u8], out: &mut [u8]) -> StepResult<'a>
     requires { (line_room max_places ≤ length out.old) × (sound max_places (held s) ≡ true) }
-    ensures value { outcome_of rest.now result out.new ≡ written (slot_step max_places (held s) (counts_read (held s).table.count rest.now)) out.old }
-    ensures took { taken_by result.output ≤ length rest.now }
+    ensures value { outcome_of result out.new ≡ written (slot_step max_places (held s) (counts_read (held s).table.count rest.now)) out.old }
     ensures wrote { wrote_by result.output ≤ length out.old }
 {
-    let words = s.words;
-    let n = count(&words);
-    let read = read_counts(rest, n);
-    let counts = read.counts;
-    let answer = read.answer;
-    match answer {
-        Counted::Refused(c) => refuse(s, c, out),
-        Counted::Taken(taken) => {
-            let done = post_and_slot(s, &counts[..n]);
-            tell(s, done, taken, out)
-        }
+    let n = count(&s.words);
+    match read_counts(rest, n) {
+        // The counts, and the rest of the bytes. The proof does not cover a pattern that takes the array out of the pair (tried).
+        Ok(read) => tell(s, post_and_slot(s, &read.0[..n]), read.1, out),
+        Err(why) => refuse(s, why, out),
     }
 }
 
 // One slot from the rest of the input, or the end. Its line may be a refusal's: 23, and of clause 13.15 8, 9, 21, 22.
-pub fn step(s: Arbiter, rest: &[u8], out: &mut [u8]) -> StepResult
-    ensures value { outcome_of rest.now result out.new ≡ in_buffer max_places (step max_places (held s) rest.now) (held s) out.old }
-    ensures took { taken_by result.output ≤ length rest.now }
+#[tactic(auto, using(arbiter::proofs::ByValue::right_full, arbiter::proofs::ByValue::room_full, moves::proofs::Readiness::the_slot, crate::proofs::Telling::end_few, crate::proofs::Telling::text_taken), unfolding(crate::specs::Listing::step))]
+pub fn step<'a>(s: Arbiter, rest: &'a [u8], out: &mut [u8]) -> StepResult<'a>
+    ensures value { outcome_of result out.new ≡ in_buffer max_places (step max_places (held s) rest.now) (held s) out.old }
     ensures wrote { wrote_by result.output ≤ length out.old }
 {
     if out.len() < LINE_ROOM {
@@ -110,24 +99,22 @@ pub fn step(s: Arbiter, rest: &[u8], out: &mut [u8]) -> StepResult
             output: Output::NoRoom,
         };
     }
-    let words = s.words;
-    if !is_sound(&words) {
-        return refuse(s, Cause::State(StateRefusal::Unsound), out);
+    if !is_sound(&s.words) {
+        return refuse(s, StateRefusal::Unsound.into(), out);
     }
     if rest.len() == 0 {
-        let slots = slot_number(&words);
         return StepResult {
             state: s,
-            output: Output::Last(put_end(slots, out)),
+            output: Output::Last(put_end(slot_number(&s.words), out)),
         };
     }
     slot_step(s, rest, out)
 }
 
 // The header, and behind it the refusal's line if the input begins with a fault (clause 13.15): 13, 8, 9, and the table's.
-pub fn first_step(input: &[u8], out: &mut [u8]) -> StepResult
-    ensures value { outcome_of input.now result out.new ≡ in_buffer max_places (first_step max_places input.now) (no_state max_places) out.old }
-    ensures took { taken_by result.output ≤ length input.now }
+#[tactic(auto, using(crate::proofs::Telling::header_length, crate::proofs::Telling::refused_few, crate::proofs::Telling::text_taken, lists::proofs::Overwriting::length_over, lists::proofs::Overwriting::written_behind), unfolding(crate::specs::Listing::first_step, crate::specs::Listing::headed))]
+pub fn first_step<'a>(input: &'a [u8], out: &mut [u8]) -> StepResult<'a>
+    ensures value { outcome_of result out.new ≡ in_buffer max_places (first_step max_places input.now) (no_state max_places) out.old }
     ensures wrote { wrote_by result.output ≤ length out.old }
 {
     if out.len() < LINE_ROOM {
@@ -136,21 +123,15 @@ pub fn first_step(input: &[u8], out: &mut [u8]) -> StepResult
             output: Output::NoRoom,
         };
     }
-    let begun = begin(input);
-    let state = begun.state;
-    let beginning = begun.beginning;
     let at = put_header(out);
-    match beginning {
-        Beginning::Taken(taken) => StepResult {
-            state: state,
-            output: Output::More(at, taken),
+    match begin(input) {
+        Ok((state, rest)) => StepResult {
+            state,
+            output: Output::More(at, rest),
         },
-        Beginning::Refused(c) => {
-            let wrote = put_refused(c, &mut out[at..]);
-            StepResult {
-                state: Arbiter::none(),
-                output: Output::Last(at + wrote),
-            }
-        }
+        Err(why) => StepResult {
+            state: Arbiter::none(),
+            output: Output::Last(at + put_refused(why, &mut out[at..])),
+        },
     }
 }

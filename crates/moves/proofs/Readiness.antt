@@ -1,10 +1,9 @@
 -- What words that passed test 23 leave room for, what a slot makes of them, and that they pass it again. Assumes nothing.
-use Rattle.std.proofs.Common.{◌≡◌, refl, ap, sym, ◌∙◌, true, List, ℕ, ◌+◌, ◌≤◌, ◌<◌, ◌^◌, arith, length, get_or, get_or-take}
+use Rattle.std.proofs.Common.{◌≡◌, refl, ap, sym, ◌∙◌, true, List, ℕ, ◌+◌, ◌≤◌, ◌<◌, ◌^◌, arith, length, get_or, get_or-take, Option}
 use Rattle.terms.specs.State.{State, credit, account_at, sound}
 use Rattle.terms.specs.Limits.{max_places, max_slot}
 use Rattle.terms.specs.Table.{rate, no_requestor, requestor_at}
 use Rattle.terms.proofs.Sound.{Sound, sound_open, sound_shut, sound_fair, row_at, credit_most}
-use Rattle.rule.specs.declared.rule.Grant.{Grant}
 use Rattle.rule.specs.Calls.{grant_of, advanced}
 use Rattle.rule.proofs.Kept.{advanced_sound}
 use Rattle.layout.specs.Words.{word_count, room_of_words, right_length, account_in, words_state, state_of, put_slot_number, with_slot}
@@ -46,11 +45,11 @@ module _ (words : List ℕ) (ok : right_length max_places words ≡ true) where
     pub place_account : (p : ℕ) → p < (state_of words).table.count → account_in words p ≡ account_at p (state_of words).accounts
     place_account p h = sym (state.account_at_lem room words p (omega (arith, count_most)))
 
-    pub roomy : Roomy words 0 (state_of words).table.count
+    pub roomy : Roomy words (state_of words).table.count
     roomy = record {
       long = length_is.long;
       most = count_most;
-      sums = λ p l h.
+      sums = λ p h.
           let row = ap rate (state.row_at room words p (omega (arith, count_most))) in
           let account = ap credit (place_account p h) in
           omega (arith, row, account, sum_fits room (state_of words) length_is.room_most held p h);
@@ -69,23 +68,40 @@ pub the_slot : (words : List ℕ) → (state_of words).slot.0 ≡ get_or words 2
 unfolding words_state
 the_slot words = refl
 
+-- words that passed test 23, with the D and the N that they hold
+pub ready : (words : List ℕ) → right_length max_places words ≡ true → sound (room_of_words words) (state_of words) ≡ true → Ready words (get_or words 0 0) (get_or words 1 0)
+ready words ok passes = record { right = ok; sound = passes; denominator = sym (the_denominator words); count = sym (the_count words) }
+
+-- their slot number has numbers behind it
+pub slot_most : (words : List ℕ) → right_length max_places words ≡ true → sound (room_of_words words) (state_of words) ≡ true → get_or words 2 0 ≤ max_slot
+slot_most words ok passes = omega (arith, (held words ok passes).slot_most, the_slot words)
+
 -- a slot: the accounts move on, and then the slot number
 module _ (words : List ℕ) (d n : ℕ) (r : Ready words d n) where
-  pub ready_roomy : Roomy words 0 n
+  pub ready_there : 3 ≤ length words
+  ready_there = head_there words r.right
+
+  pub ready_roomy : Roomy words n
   ready_roomy = rw r.count (roomy words r.right r.sound)
 
-  pub ready_grant : (g : Grant) → g ≡ grant_among d n (state_of words) → g ≡ grant_of (state_of words)
-  unfolding grant_of
-  ready_grant g e = e ∙ rw (r.denominator, r.count)
+  pub ready_below : get_or words 2 0 ≤ max_slot
+  ready_below = slot_most words r.right r.sound
 
-  pub slot_done : (left : List ℕ) (g : Grant) (at : ℕ) → length left ≡ length words → state_of left ≡ slot_among d n g (state_of words) → g ≡ grant_of (state_of words)
-      → at ≡ (state_of words).slot.0 → state_of (put_slot_number left (at + 1)) ≡ advanced (state_of words) (grant_of (state_of words))
+  pub ready_grant : grant_among d n (state_of words) ≡ grant_of (state_of words)
+  unfolding grant_of
+  ready_grant = rw (r.denominator, r.count)
+
+  pub slot_done : (left : List ℕ) (g : Option ℕ) → length left ≡ length words → state_of left ≡ slot_among d n g (state_of words) → g ≡ grant_among d n (state_of words)
+      → state_of (put_slot_number left (get_or words 2 0 + 1)) ≡ advanced (state_of words) (grant_of (state_of words))
   unfolding advanced
-  slot_done left g at long e f number =
-      let there : 3 ≤ length left = omega (arith, head_there words r.right) in
-      let same : room_of_words (put_slot_number left (at + 1)) ≡ room_of_words left = same_room left (put_slot_number left (at + 1)) (put_slot_length left (at + 1)) in
-      let stored : state_of (put_slot_number left (at + 1)) ≡ with_slot (state_of left) (at + 1) = ap (λ k. words_state k (put_slot_number left (at + 1))) same ∙ put_slot left (at + 1) (room_of_words left) there in
-      stored ∙ rw (e, f, number, r.denominator, r.count)
+  slot_done left g long e f =
+      let at = get_or words 2 0 + 1 in
+      let there : 3 ≤ length left = omega (arith, ready_there) in
+      let same : room_of_words (put_slot_number left at) ≡ room_of_words left = same_room left (put_slot_number left at) (put_slot_length left at) in
+      let stored : state_of (put_slot_number left at) ≡ with_slot (state_of left) at = ap (λ k. words_state k (put_slot_number left at)) same ∙ put_slot left at (room_of_words left) there in
+      stored ∙ rw (e, f ∙ ready_grant, ← the_slot words, r.denominator, r.count)
+
+pub ruleset slot_steps = (ready_there, ready_roomy, ready_below, ready_grant, slot_done)
 
 -- and what it leaves is ready again
 pub ready_next : (words left : List ℕ) (d n : ℕ) → Ready words d n → (state_of words).slot.0 < max_slot → length left ≡ length words

@@ -18,13 +18,7 @@ pub fn bytes_len(numbers: &[u32]) -> usize
     requires { length numbers.now ≤ 2 + 4 * max_places }
     ensures { result ≡ length (joined number_bytes numbers.now) }
 {
-    let mut k: usize = 0;
-    let mut i: usize = 0;
-    while i < numbers.len() {
-        k = k + number_len(numbers[i]);
-        i = i + 1;
-    }
-    k
+    numbers.iter().map(|x| number_len(*x)).sum()
 }
 
 // The numbers' bytes in a buffer that has room for them, one number behind the other.
@@ -32,11 +26,8 @@ pub fn put_numbers(numbers: &[u32], buffer: &mut [u8])
     requires { length (joined number_bytes numbers.now) ≤ length buffer.old }
     ensures { buffer.new ≡ written_over (joined number_bytes numbers.now) buffer.old }
 {
-    let mut at: usize = 0;
-    let mut i: usize = 0;
-    while i < numbers.len() {
-        let x = numbers[i];
-        at = at + write_number(x, &mut buffer[at..]);
-        i = i + 1;
+    let mut at = 0;
+    for x in numbers {
+        at += write_number(*x, &mut buffer[at..]).unwrap();
     }
 }

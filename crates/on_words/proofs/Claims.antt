@@ -1,5 +1,5 @@
 -- The calls on lent words as the calls by value, one by one and in a row; and what was not carried out. Assumes nothing.
-use Rattle.std.proofs.Common.{◌≡◌, refl, ap, sym, ◌∙◌, Bool, true, false, ◌&&◌, List, [], ◌∷◌, ℕ, arith, eq-eqb, eqb, ℤ, length, replicate}
+use Rattle.std.proofs.Common.{◌≡◌, refl, ap, sym, ◌∙◌, Bool, true, false, ◌&&◌, List, [], ◌∷◌, ℕ, arith, eq-eqb, eqb, ℤ, length, replicate, Option, Some, None}
 use lib.ListN.{length-replicate, length-map}
 use Rattle.lists.specs.Choices.{pick}
 use Rattle.lists.specs.Overwriting.{written_over}
@@ -10,7 +10,7 @@ use Rattle.terms.specs.declared.place.Account.{Account}
 use Rattle.terms.specs.State.{State, no_account, sound, Shaped, place_verdict}
 use Rattle.terms.specs.Table.{Table, no_requestor, table_of}
 use Rattle.terms.specs.Refusals.{Verdict, faultless, fault, refusal, gate, then, resolve}
-use Rattle.terms.specs.Answers.{Answer, accepted, granted, idle, refused, unless}
+use Rattle.terms.specs.Answers.{Answer, accepted, granted, idle, refused, unless, slot_answer}
 use Rattle.terms.specs.Start.{fresh, opening, no_state, start_verdict, start, turned_down}
 use Rattle.terms.specs.Queries as queries
 use Rattle.terms.specs.Chain as chains
@@ -19,9 +19,7 @@ use Rattle.terms.specs.TableResult.{TableResult, accept, refuse}
 use Rattle.table_bytes.specs.Reading.{Read, read, stop, numbers_read, last_verdict, settled, read_table}
 use Rattle.table_bytes.specs.Writing as writing
 use Rattle.table_bytes.proofs.Opened.{numbers_open, rows_taken}
-use Rattle.rule.specs.declared.rule.Grant.{Grant}
-use Rattle.rule.specs.declared.rule.Grant.TheVariants.{Nobody, Place}
-use Rattle.rule.specs.Calls.{Call, post, slot, grant_of, slot_answer, done, rule_verdict, outcome, called}
+use Rattle.rule.specs.Calls.{Call, post, slot, grant_of, done, rule_verdict, outcome, called}
 use Rattle.rule.proofs.Verdicts.{called_unsound}
 use Rattle.rule.specs.Log.{Outcome, slots_state, slots_log, run_verdict, run}
 use Rattle.rule.proofs.Longer.{call_shaped}
@@ -236,9 +234,9 @@ module _ (room : ℕ) (s : State) where
   outcome_ends faultless (post p count) t = went refl
   outcome_ends faultless slot t = went (by (grant_of s))
     where
-      by : (g : Grant) → answer_code (slot_answer s.slot.0 g) ≡ 0
-      by Nobody = refl
-      by (Place p) = refl
+      by : (g : Option ℕ) → answer_code (slot_answer s.slot.0 g) ≡ 0
+      by None = refl
+      by (Some p) = refl
   outcome_ends (fault r) c t = turned r (t r refl) refl (refl, λ old. refl)
 
   call_ends : (c : Call) → Ends room (answer_code (called room s c).answer) (Stands (called room s c))

@@ -1,7 +1,6 @@
 -- Every row passes: the definitions compute to what is written. One list after the other, since the check counts the steps of each
 -- proof and the words grow with the largest N. Assumes nothing.
 use Rattle.std.proofs.Common.{refl}
-use mathlib.Core.Option.{bind}
 use Rattle.lists.specs.Sums.{total, joined, every, up_to}
 use Rattle.lists.specs.Orders.{without}
 use Rattle.lists.specs.Pairs.{paired}
@@ -80,11 +79,11 @@ unfolding room_of_words right_length places_from words_state state_words joined 
 room_pass = refl
 
 order_pass : Pass order_rows
-unfolding joined refusal_code total every gate then held_to fields_verdict each_place tail_verdict rate_sum_verdict need_fits need_fits_verdict offered_row_verdict verdict_by rounded_up finish finish_verdict admission_verdict table_of written_over groups_of number_bytes table_numbers table_bytes write_verdict write_table last_group combined later_groups number_of next field_read row_fields_read row_read items_read places_by numbers_by bind without need_holds last_holding filled_up listed_verdict order_read order_bytes ordered order_rows
+unfolding joined refusal_code total every gate then held_to fields_verdict each_place tail_verdict rate_sum_verdict need_fits need_fits_verdict offered_row_verdict verdict_by rounded_up finish finish_verdict admission_verdict table_of written_over groups_of number_bytes table_numbers table_bytes write_verdict write_table last_group combined later_groups number_of next field_read row_fields_read row_read items_read places_by numbers_by without need_holds last_holding filled_up listed_verdict order_read order_bytes ordered order_rows
 order_pass = refl
 
 need_pass : Pass need_rows
-unfolding room_of_words right_length places_from words_state state_words joined paired refusal_code words_in total every gate then held_to fields_verdict each_place tail_verdict rate_sum_verdict need_fits need_fits_verdict offered_row_verdict verdict_by rounded_up finish finish_verdict admission_verdict table_of written_over opening no_state start_verdict start leaves last_group combined later_groups number_of next field_read row_fields_read row_read items_read places_by numbers_by last_verdict settled read_table begun started numbers_table started_of up_to accounts_hold sound old_room_of old_right_length fits_into old_words_state carry carried_over with_count with_post done rule_verdict called on_state posted eligible later first_eligible served passed after grant_of advanced slotted input_verdict slots_state slots_log slots_verdict run_verdict run ran place_verdict figures_verdict figures lead_of lead_verdict lead_query figured led named follows chain_to chain_figure name_verdict circle_verdict following_verdict chain_verdict chain chained groups_of number_bytes table_numbers table_bytes write_verdict write_table wrote account_query standing account_exported standing_exported bind without need_holds last_holding filled_up listed_verdict order_read order_bytes ordered words_thrice numbers_thrice need_rows
+unfolding room_of_words right_length places_from words_state state_words joined paired refusal_code words_in total every gate then held_to fields_verdict each_place tail_verdict rate_sum_verdict need_fits need_fits_verdict offered_row_verdict verdict_by rounded_up finish finish_verdict admission_verdict table_of written_over opening no_state start_verdict start leaves last_group combined later_groups number_of next field_read row_fields_read row_read items_read places_by numbers_by last_verdict settled read_table begun started numbers_table started_of up_to accounts_hold sound old_room_of old_right_length fits_into old_words_state carry carried_over with_count with_post done rule_verdict called on_state posted eligible later first_eligible served passed after grant_of advanced slotted input_verdict slots_state slots_log slots_verdict run_verdict run ran place_verdict figures_verdict figures lead_of lead_verdict lead_query figured led named follows chain_to chain_figure name_verdict circle_verdict following_verdict chain_verdict chain chained groups_of number_bytes table_numbers table_bytes write_verdict write_table wrote account_query standing account_exported standing_exported without need_holds last_holding filled_up listed_verdict order_read order_bytes ordered words_thrice numbers_thrice need_rows
 need_pass = refl
 
 length_pass : Pass length_rows

@@ -1,7 +1,5 @@
 -- An ordering of a table's bytes, by what was read of them into words; and what an accepted one says of them. Assumes nothing.
-use Rattle.std.proofs.Common.{◌≡◌, refl, ap, ◌∙◌, List, [], ℕ, length}
-use mathlib.Core.Option as option
-use mathlib.Core.Option.{Option}
+use Rattle.std.proofs.Common.{◌≡◌, refl, ap, ◌∙◌, List, [], ℕ, length, Option, Some, None}
 use Rattle.terms.specs.declared.refusals.Refusal.{Refusal}
 use Rattle.terms.specs.declared.place.Requestor.{Requestor}
 use Rattle.terms.specs.Table.{Table, table_of, rate_sum_verdict}
@@ -78,8 +76,8 @@ module _ (limit : ℕ) (bytes : List ℕ) where
         where
           told : (v : Verdict) → listed_verdict t rest ≡ v → (o : Option (List Requestor)) → order_of t ≡ o → Ends
           told (fault why) f o g = turned_down_lem why (rw (whole, f))
-          told faultless f option.none g = turned_down_lem (refusal 15) (rw (whole, f, g))
-          told faultless f (option.some rows) g = carried_out (table_of limit t.denominator t.count rows) (rw (whole, f, g))
+          told faultless f None g = turned_down_lem (refusal 15) (rw (whole, f, g))
+          told faultless f (Some rows) g = carried_out (table_of limit t.denominator t.count rows) (rw (whole, f, g))
 
   -- so the writer's admission passes
   pub answer_admitted : (u : Table) → order_read limit (numbers_read limit bytes) ≡ accept u → admission_verdict limit u ≡ faultless

@@ -1,6 +1,5 @@
 -- The theorems about an order. Assumes nothing.
-use Rattle.std.proofs.Common.{◌≡◌, refl, ap, sym, ◌∙◌, List, [], append-nil, ℕ, ◌≤◌, arith, length, drop, replicate, length-take-le, drop_at}
-use mathlib.Core.Option.{Option, none, some}
+use Rattle.std.proofs.Common.{Option, Some, None, ◌≡◌, refl, ap, sym, ◌∙◌, List, [], append-nil, ℕ, ◌≤◌, arith, length, drop, replicate, length-take-le, drop_at}
 use lib.Seq.{take-length, drop-length}
 use Rattle.lists.specs.Orders.{Permuted}
 use Rattle.lists.specs.Overwriting.{written_over}
@@ -27,8 +26,8 @@ use Rattle.ordering.proofs.Reorders.{reordered_back, checks_stand, rated, admitt
 
 pub data Ends (limit : ℕ) (t : Table) : Type 0 where
   turned_down_lem : (why : Refusal) → offered_verdict limit t ≡ fault why → order limit t ≡ refuse limit why → Ends limit t
-  not_found : offered_verdict limit t ≡ faultless → order_of t ≡ none → order limit t ≡ refuse limit (refusal 15) → Ends limit t
-  ordered : (rows : List Requestor) → offered_verdict limit t ≡ faultless → order_of t ≡ some rows
+  not_found : offered_verdict limit t ≡ faultless → order_of t ≡ None → order limit t ≡ refuse limit (refusal 15) → Ends limit t
+  ordered : (rows : List Requestor) → offered_verdict limit t ≡ faultless → order_of t ≡ Some rows
       → order limit t ≡ accept (table_of limit t.denominator t.count rows) → Ends limit t
 
 pub ends : (limit : ℕ) (t : Table) → Ends limit t
@@ -37,8 +36,8 @@ ends limit t = by (offered_verdict limit t) refl (order_of t) refl
   where
     by : (v : Verdict) → offered_verdict limit t ≡ v → (o : Option (List Requestor)) → order_of t ≡ o → Ends limit t
     by (fault why) e o f = turned_down_lem why e (rw e)
-    by faultless e none f = not_found e f (rw (e, f))
-    by faultless e (some rows) f = ordered rows e f (rw (e, f))
+    by faultless e None f = not_found e f (rw (e, f))
+    by faultless e (Some rows) f = ordered rows e f (rw (e, f))
 
 -- what was put in order in a state, and its answer
 pub in_state_lem : (limit : ℕ) (s : State) (t : Table) → table_only (in_state limit s (order limit t)) ≡ order limit t
@@ -59,7 +58,7 @@ module _ (limit : ℕ) (t : Table) (shape : length t.requestors ≡ limit) (ok :
   as_many : length (requestors_of t) ≡ t.count
   as_many = length-take-le t.count t.requestors few
 
-  module _ (rows : List Requestor) (e : order_of t ≡ some rows) where
+  module _ (rows : List Requestor) (e : order_of t ≡ Some rows) where
     abbrev u : Table
     u = table_of limit t.denominator t.count rows
 
@@ -101,7 +100,7 @@ module _ (limit : ℕ) (t : Table) (shape : length t.requestors ≡ limit) (ok :
 
 -- ---- where none is found
 
-no_order_passes : (limit : ℕ) (t : Table) → length t.requestors ≡ limit → offered_verdict limit t ≡ faultless → order_of t ≡ none → NoOrderPasses limit t
+no_order_passes : (limit : ℕ) (t : Table) → length t.requestors ≡ limit → offered_verdict limit t ≡ faultless → order_of t ≡ None → NoOrderPasses limit t
 no_order_passes limit t shape ok e u other passes =
     no_order t.denominator t.count (requestors_of t) [] (requestors_of u) (as_many limit t shape ok) (rated limit t ok) e other.requestors
     (rw other.denominator at (admitted_holds limit u passes))
@@ -115,7 +114,7 @@ turned_down_none limit t why e u other passes =
 
 -- the answer is what was found
 answered : (P : Table → Type 0) (limit : ℕ) (t w : Table) → order limit t ≡ accept w
-    → ((rows : List Requestor) → offered_verdict limit t ≡ faultless → order_of t ≡ some rows → P (table_of limit t.denominator t.count rows)) → P w
+    → ((rows : List Requestor) → offered_verdict limit t ≡ faultless → order_of t ≡ Some rows → P (table_of limit t.denominator t.count rows)) → P w
 answered P limit t w e of-found = by (ends limit t)
   where
     by : Ends limit t → P w
@@ -139,7 +138,7 @@ right_order_stays limit t shape passes =
     let ok : offered_verdict limit t ≡ faultless = (then_open _ _ passes).0 in
     let rs = requestors_of t in
     let all = right_already t.denominator (length rs) rs (omega arith) (admitted_holds limit t passes) in
-    let listed : order_of t ≡ some rs = rw (take-length rs, drop-length rs, as_many limit t shape ok) at all in
+    let listed : order_of t ≡ Some rs = rw (take-length rs, drop-length rs, as_many limit t shape ok) at all in
     let whole : table_of limit t.denominator t.count rs ≡ t = rw shape at (table_whole_lem t (few limit t shape ok) (passed offered_row_verdict limit t ok).clear) in
     rw (ok, listed, whole)
 

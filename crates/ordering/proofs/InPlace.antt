@@ -1,6 +1,5 @@
 -- The search on words: the requestors that remain and their sums, one need, and each turn of the loops. For any room. Assumes nothing.
-use Rattle.std.proofs.Common.{◌≡◌, refl, ap, ap₂, sym, ◌∙◌, true, false, List, ◌∷◌, ◌++◌, ℕ, suc, ◌+◌, ◌-◌, ◌*◌, ◌≤◌, ◌<◌, mul-le-mul_right, arith, leb, length, take, drop, length-take, get_or-take}
-use mathlib.Core.Option.{none, some}
+use Rattle.std.proofs.Common.{Some, None, ◌≡◌, refl, ap, ap₂, sym, ◌∙◌, true, false, List, ◌∷◌, ◌++◌, ℕ, suc, ◌+◌, ◌-◌, ◌*◌, ◌≤◌, ◌<◌, mul-le-mul_right, arith, leb, length, take, drop, length-take, get_or-take}
 use Rattle.lists.specs.Choices.{pick}
 use Rattle.lists.specs.Sums.{total}
 use Rattle.lists.specs.Orders.{without, occurrences}
@@ -8,16 +7,16 @@ use Rattle.lists.specs.Runs.{Result}
 use Rattle.lists.proofs.Sums.{total_take_rises}
 use Rattle.lists.proofs.Orders.{total_without}
 use Rattle.terms.specs.declared.place.Requestor.{Requestor}
-use Rattle.terms.specs.Table.{rate, burst, no_requestor, requestor_at, requestors_of, table_of, offered_row_verdict}
+use Rattle.terms.specs.Table.{rate, burst, no_requestor, requestor_at, requestors_of, table_of, offered_row_verdict, offered_verdict}
 use Rattle.terms.specs.Limits.{max_denominator, max_burst, max_within}
 use Rattle.terms.specs.Figures.{bursts_above, rates_above, finish_of}
-use Rattle.terms.specs.Refusals.{refusal}
+use Rattle.terms.specs.Refusals.{faultless, refusal, gate}
 use Rattle.terms.specs.Answers.{Answer, accepted}
 use Rattle.terms.specs.State.{State}
 use Rattle.terms.specs.Start.{turned_down}
-use Rattle.terms.proofs.Checks.{Fair, fair, bursts_fit, passed, offered_passes}
+use Rattle.terms.proofs.Checks.{gate_open, Fair, fair, bursts_fit, passed, offered_passes}
 use Rattle.terms.proofs.Tables.{table_whole_lem}
-use Rattle.layout.specs.Words.{word_count, room_of_words, row_in, words_state, state_of, put_row, with_table}
+use Rattle.layout.specs.Words.{word_count, room_of_words, right_length, row_in, words_state, state_of, put_row, with_table}
 use Rattle.layout.proofs.RoundTrip.{right}
 use Rattle.layout.proofs.Stores.{same_room, right_stands, put_row_lem, put_row_length}
 use Rattle.admission.specs.Checked.{table_in, rows_in, OfferChecked, Parts}
@@ -25,9 +24,13 @@ use Rattle.admission.proofs.Rows.{offered_checked, rows_length, row_at, Placed, 
 use Rattle.ordering.specs.Order.{need_holds, last_holding, filled_up, order_of, found}
 use Rattle.ordering.specs.InPlace.{in_state, Remaining, lowered}
 use Rattle.ordering.specs.Claims.{same_requestor, Reordered}
-use Rattle.ordering.proofs.Searching.{nobody_fills, fills}
+use Rattle.ordering.proofs.Searching.{holding_at, nobody_fills, fills}
 use Rattle.ordering.proofs.Reorders.{checks_stand}
 use Rattle.ordering.proofs.Lowered.{raised, raised_none, raised_more, next_there, sunk_last, lowered_take, lowered_drop, lowered_past, lowered_total}
+
+-- words that were checked as they are offered
+pub offer_checked : (most : ℕ) (words : List ℕ) → faultless ≡ gate (refusal 23) (right_length most words) (offered_verdict (room_of_words words) (table_in words)) → OfferChecked most words
+offer_checked most words e = let (ok, passes) = gate_open _ _ _ (sym e) in record { right = ok; passes = passes }
 
 -- ---- the first k rows remain
 
@@ -118,7 +121,7 @@ module _ (most : ℕ) (words : List ℕ) (k bursts rates : ℕ) (v : Remaining m
     unfolding last_holding
     holding_pass off = rw (own_row, off)
 
-    pub holding_stop : need_holds d (without i remaining) (row_in words i) ≡ true → last_holding d remaining (suc i) ≡ some i
+    pub holding_stop : need_holds d (without i remaining) (row_in words i) ≡ true → last_holding d remaining (suc i) ≡ Some i
     unfolding last_holding
     holding_stop on = rw (own_row, on)
 
@@ -222,10 +225,28 @@ module _ (most : ℕ) (entry words : List ℕ) (k bursts rates : ℕ) (v : Searc
   abbrev all_found : Result State Answer
   all_found = in_state (room_of_words entry) (state_of entry) (found (room_of_words entry) (table_in entry) (order_of (table_in entry)))
 
-  -- nobody can stand there
-  pub searching_stop : 0 < k → last_holding (table_in words).denominator (take k (rows_in words)) k ≡ none → turned_down (room_of_words words) (refusal 15) ≡ all_found
-  searching_stop left e =
-      rw (v.goes_on ∙ nobody_fills (table_in words).denominator (take k (rows_in words)) filled k left e, same_room entry words v.length_stands)
+  -- nobody can stand at place k - 1
+  pub searching_stop : 0 < k → None ≡ last_holding (table_in words).denominator (take (k - 1 + 1) (rows_in words)) (k - 1 + 1) → turned_down (room_of_words words) (refusal 15) ≡ all_found
+  searching_stop left told =
+      let again : k - 1 + 1 ≡ k = omega arith in
+      rw (v.goes_on ∙ nobody_fills (table_in words).denominator (take k (rows_in words)) filled k left (rw again at (sym told)), same_room entry words v.length_stands)
+
+  -- the one that is chosen for place k - 1
+  module _ (left : 0 < k) (i : ℕ) (told : Some i ≡ last_holding (table_in words).denominator (take (k - 1 + 1) (rows_in words)) (k - 1 + 1)) where
+    pub is_last : last_holding (table_in words).denominator (take k (rows_in words)) k ≡ Some i
+    is_last = let again : k - 1 + 1 ≡ k = omega arith in rw again at (sym told)
+
+    pub is_inside : i < k
+    is_inside = (holding_at _ _ _ _ is_last).0
+
+    pub its_words : Placed most words i
+    its_words = one most words k bursts rates v.remain i is_inside
+
+    pub its_sums : ((row_in words i).burst ≤ bursts) × ((row_in words i).rate ≤ rates)
+    its_sums = (burst_inside most words k bursts rates v.remain i is_inside, rate_inside most words k bursts rates v.remain i is_inside)
+
+    pub its_place : (i ≤ k - 1) × (k - 1 < room_of_words words)
+    its_place = (omega (arith, is_inside), omega (arith, within_room most words k bursts rates v.remain))
 
   module _ (next : List ℕ) (stands : length next ≡ length words) (i : ℕ) (inside : i < k) (e : state_of next ≡ lowered i (k - 1) (state_of words)) where
     again : suc (k - 1) ≡ k
@@ -266,7 +287,7 @@ module _ (most : ℕ) (entry words : List ℕ) (k bursts rates : ℕ) (v : Searc
         let one_more : (table_in words).count - (k - 1) ≡ suc ((table_in words).count - k) = omega (arith, v.remain.few) in
         rw (count_next, one_more, rows_next, lowered_drop no_requestor (rows_in words) i k (table_in words).count inside v.remain.few long, get_or-take k (rows_in words) i no_requestor inside)
 
-    pub searching_more : last_holding (table_in words).denominator (take k (rows_in words)) k ≡ some i
+    pub searching_more : last_holding (table_in words).denominator (take k (rows_in words)) k ≡ Some i
         → Searching most entry next (k - 1) (bursts - (row_in words i).burst) (rates - (row_in words i).rate)
     searching_more chosen = record {
       length_stands = stands ∙ v.length_stands;
@@ -289,7 +310,7 @@ module _ (most : ℕ) (entry words : List ℕ) (k bursts rates : ℕ) (v : Searc
   searching_end none_left =
       let zero_left : k ≡ 0 = omega arith in
       let all : (table_in words).count - 0 ≡ (table_in words).count = omega arith in
-      let listed : order_of (table_in entry) ≡ some (requestors_of (table_in words)) = rw (zero_left, all) at v.goes_on in
+      let listed : order_of (table_in entry) ≡ Some (requestors_of (table_in words)) = rw (zero_left, all) at v.goes_on in
       let few : (table_in words).count ≤ length (rows_in words) = omega (arith, (fair (room_of_words words) (table_in words) (offered_passes _ _ v.remain.checked.passes)).count_most, rows_length words) in
       let whole = table_whole_lem (table_in words) few (passed offered_row_verdict (room_of_words words) (table_in words) v.remain.checked.passes).clear in
       let room : length (rows_in words) ≡ room_of_words entry = rows_length words ∙ same_room entry words v.length_stands in

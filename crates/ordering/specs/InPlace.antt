@@ -1,6 +1,5 @@
 -- A table put in order where it stands in a state's words (clause 8.1), and what the search knows of them on its way.
 use Rattle.std.specs.Prelude.{◌≡◌, List, ◌∷◌, ◌++◌, ℕ, suc, ◌≤◌, take, drop}
-use Rattle.std.proofs.Math.Option.{Option, none, some}
 use Rattle.lists.specs.Orders.{without}
 use Rattle.lists.specs.Runs.{Result}
 use Rattle.terms.specs.declared.place.Requestor.{Requestor}
@@ -12,8 +11,6 @@ use Rattle.terms.specs.State.{State}
 use Rattle.terms.specs.Start.{turned_down}
 use Rattle.layout.specs.Words.{with_table}
 use Rattle.admission.specs.Checked.{table_in, rows_in, OfferChecked}
-use Rattle.ordering.specs.declared.search.Holding.{Holding}
-use Rattle.ordering.specs.declared.search.Holding.TheVariants as holding
 
 -- a state whose table was put in order: the slot number and the accounts stay; a refusal leaves a state that is all 0 (clause 1.6)
 abbrev pub in_state : ℕ → State → TableResult → Result State Answer
@@ -40,8 +37,3 @@ lowered i p s = with_table s (record {
   count = s.table.count;
   requestors = rows_lowered i p s.table.requestors;
 })
-
--- the code's value in the definition's
-abbrev pub holding_of : Holding → Option ℕ
-holding_of (holding.At i) = some i
-holding_of holding.Nobody = none

@@ -2,5 +2,4 @@
 #![tactic(auto)]
 
 pub mod order;
-pub mod refusing;
 mod search;

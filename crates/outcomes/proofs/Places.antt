@@ -1,26 +1,21 @@
 -- The number and the place of a refusal, along the checks of a table and along the reading of its bytes. Assumes nothing.
-use Rattle.std.proofs.Common.{◌≡◌, refl, ap, sym, ◌∙◌, Bool, true, false, List, [], ◌∷◌, ℕ, zero, suc, ◌+◌, ◌-◌, ◌≤◌, ◌<◌, arith, eqb-true, ltb, leb, eqb, ℤ, length, take, drop, length-take}
-use mathlib.Core.Option as option
-use mathlib.Core.Option.{Option}
+use Rattle.std.proofs.Common.{◌≡◌, refl, ap, sym, ◌∙◌, Bool, true, false, List, [], ◌∷◌, ℕ, zero, suc, ◌+◌, ◌-◌, ◌≤◌, ◌<◌, arith, eqb-true, ltb, leb, eqb, length, take, drop, length-take, Option, Some, None}
 use Rattle.lists.specs.Sums.{total, every}
 use Rattle.lists.specs.Choices.{in_range}
 use Rattle.lists.specs.Runs.{Result}
 use Rattle.lists.proofs.Tests.{cases, in_range_true}
-use Rattle.groups.specs.declared.reading.Reading as number
-use Rattle.groups.specs.declared.reading.Reading.TheVariants.{Number, Ended, Malformed}
-use Rattle.groups.specs.Groups.{number_of}
-use Rattle.terms.specs.declared.refusals.Named.{Named}
-use Rattle.terms.specs.declared.refusals.Named.TheVariants as named
+use Rattle.groups.specs.Groups as number
+use Rattle.groups.specs.Groups.{Number, Ended, Malformed, number_of}
 use Rattle.terms.specs.declared.refusals.Refusal.{Refusal}
 use Rattle.terms.specs.State.{State, backlog, account_at, sound, place_verdict}
 use Rattle.terms.specs.declared.place.Requestor.{Requestor}
 use Rattle.terms.specs.Table.{Table, rate, requestor_clear, requestors_of, table_of, Bounds, denominator_bounds, count_bounds, rate_bounds, burst_bounds, need_bounds, within_bounds, held_to, fields_verdict, need_fits, need_fits_verdict, offered_row_verdict, each_place, tail_verdict, rate_sum_verdict, verdict_by, offered_verdict}
 use Rattle.terms.specs.Limits.{max_backlog, max_slot, max_input}
 use Rattle.terms.specs.Refusals.{origin_of, Verdict, faultless, fault, refusal, refusal_at, gate, then, resolve}
-use Rattle.terms.specs.Answers.{Answer, accepted, granted, idle, refused, unless}
+use Rattle.terms.specs.Answers.{Answer, accepted, granted, idle, refused, unless, slot_answer}
 use Rattle.terms.specs.Figures.{finish, finish_verdict, finishes_verdict, admission_verdict}
 use Rattle.terms.specs.Input.{input_verdict}
-use Rattle.terms.specs.Start.{opening, no_state, start_verdict, start, turned_down}
+use Rattle.terms.specs.Start.{opening, start_verdict, start, turned_down}
 use Rattle.terms.specs.Longer.{longer}
 use Rattle.carrying.specs.Carry.{as_state, carry_verdict, carry}
 use Rattle.terms.specs.Queries as queries
@@ -32,9 +27,7 @@ use Rattle.terms.specs.TableResult.{TableResult, accept, refuse}
 use Rattle.table_bytes.specs.Reading.{Read, read, stop, next, read_as, number_read, field_read, row_fields_read, row_read, items_read, rows_read, places_read, numbers_read, left_verdict, last_verdict, settled, read_table, places_by, numbers_by}
 use Rattle.table_bytes.specs.Writing as writing
 use Rattle.lead_parts.specs.Lead as leads
-use Rattle.rule.specs.declared.rule.Grant.{Grant}
-use Rattle.rule.specs.declared.rule.Grant.TheVariants.{Nobody, Place}
-use Rattle.rule.specs.Calls.{Call, post, slot, grant_of, slot_answer, done, rule_verdict, outcome, called}
+use Rattle.rule.specs.Calls.{Call, post, slot, grant_of, done, rule_verdict, called}
 use Rattle.rule.specs.Log.{Outcome, slots_state, slots_log, slots_verdict, run_verdict, run}
 use Rattle.table_bytes.proofs.Accepted.{stop_read, field_open}
 use Rattle.table_bytes.proofs.Opened.{numbers_open}
@@ -115,11 +108,11 @@ chain_range n e = cases (eqb n 11) (equal 11 n (omega arith) (omega arith)) (λ 
 any_range : (n : ℕ) → of_any_call n ≡ true → InRange n
 any_range n e = cases (of_a_table n) (table_range n) (λ a. cases (of_a_state n) (state_range n) (λ b. cases (of_an_order n) (order_range n) (λ c. chain_range n (rw (a, b, c) at e))))
 
-place_same : (x y : Named) → place_code x ≡ place_code y → x ≡ y
-place_same named.None named.None e = refl
-place_same named.None (named.Place p) e = absurd (omega arith)
-place_same (named.Place p) named.None e = absurd (omega arith)
-place_same (named.Place p) (named.Place q) e = let same : p ≡ q = omega arith in ap named.Place same
+place_same : (x y : Option ℕ) → place_code x ≡ place_code y → x ≡ y
+place_same None None e = refl
+place_same None (Some p) e = absurd (omega arith)
+place_same (Some p) None e = absurd (omega arith)
+place_same (Some p) (Some q) e = let same : p ≡ q = omega arith in ap Some same
 
 pub code_tells : CodeTells
 unfolding refusal_code
@@ -145,7 +138,7 @@ Refuses P v = (r : Refusal) → v ≡ fault r → P r
 
 module _ (P : Refusal → Type 0) where
   refuses_none : Refuses P faultless
-  refuses_none r e = let z : ◌≡◌ {A = ℕ} 0 1 = cc in absurd (omega arith)
+  refuses_none r e = absurd cc
 
   refuses_fault : (q : Refusal) → P q → Refuses P (fault q)
   refuses_fault q b r e = let same : q ≡ r = cc in rw same at b
@@ -172,6 +165,13 @@ module _ (P : Refusal → Type 0) where
   unfolding each_place
   refuses_each limit check h p [] few = refuses_none
   refuses_each limit check h p (x ∷ rs) few = refuses_then (check p x) (each_place check (suc p) rs) (h p x (omega arith)) (λ ok. refuses_each limit check h (suc p) rs (omega arith))
+
+-- of a call that a verdict turns down: what it answers is then the verdict's refusal
+module _ {Y Z : Type 0} (answer : Y → Z) (carried_out : Y) (turned_down : Refusal → Y) (refuse : Refusal → Z) (P : Refusal → Type 0) where
+  refuses_by : (v : Verdict) → Refuses P v → (r : Refusal) → (answer carried_out ≡ refuse r → ⊥) → ((q : Refusal) → answer (turned_down q) ≡ refuse r → q ≡ r)
+      → answer (resolve v carried_out turned_down) ≡ refuse r → P r
+  refuses_by faultless h r apart same e = absurd (apart e)
+  refuses_by (fault q) h r apart same e = rw (same q e) at (h q refl)
 
 -- it holds of 1 to 6, 8, 9 and 17, at a place that there is room for
 pub record TableRefusals (limit : ℕ) (P : Refusal → Type 0) : Type 0 where
@@ -330,13 +330,10 @@ module _ (limit : ℕ) where
   unfolding settled last_verdict
   refuses_settled (stop q) s few r e = let same : q ≡ r = cc in rw same at (s q refl)
   refuses_settled (read t rest) s few r e =
-      let last = refuses_then (AmongRefusals of_a_table limit) (left_verdict rest) _ (refuses_left (AmongRefusals of_a_table limit) rest (plain limit 10 refl refl)) (λ a.
-      refuses_then (AmongRefusals of_a_table limit) (rate_sum_verdict t) (finishes_verdict t) (refuses_sum limit (AmongRefusals of_a_table limit) (of_a_table_lem limit) t) (λ b. refuses_finishes limit t (few t rest refl))) in
-      by (last_verdict t rest) last e
-    where
-      by : (v : Verdict) → Refuses (AmongRefusals of_a_table limit) v → (resolve {X = TableResult} v (accept t) (refuse limit)).answer ≡ refused r → AmongRefusals of_a_table limit r
-      by faultless h f = let z : ◌≡◌ {A = ℕ} 0 1 = cc in absurd (omega arith)
-      by (fault q) h f = let same : q ≡ r = cc in rw same at (h q refl)
+      refuses_by {Y = TableResult} (λ x. x.answer) (accept t) (refuse limit) refused (AmongRefusals of_a_table limit) (last_verdict t rest)
+      (refuses_then (AmongRefusals of_a_table limit) (left_verdict rest) _ (refuses_left (AmongRefusals of_a_table limit) rest (plain limit 10 refl refl)) (λ a.
+      refuses_then (AmongRefusals of_a_table limit) (rate_sum_verdict t) (finishes_verdict t) (refuses_sum limit (AmongRefusals of_a_table limit) (of_a_table_lem limit) t) (λ b. refuses_finishes limit t (few t rest refl))))
+      r (λ f. cc) (λ q f. cc) e
 
   refuses_answer : (bytes : List ℕ) (r : Refusal) → (read_table limit bytes).answer ≡ refused r → AmongRefusals of_a_table limit r
   unfolding read_table
@@ -347,12 +344,10 @@ module _ (limit : ℕ) where
 pub table_start_names_below : TableStartNamesBelow
 unfolding start start_verdict
 table_start_names_below limit t first r e =
-    by (start_verdict limit t first)
-    (refuses_then (AmongRefusals of_a_table limit) (admission_verdict limit t) _ (refuses_admission limit t) (λ ok. refuses_gate (AmongRefusals of_a_table limit) (refusal 12) (leb first max_slot) faultless (plain limit 12 refl refl) (refuses_none (AmongRefusals of_a_table limit)))) e
-  where
-    by : (v : Verdict) → Refuses (AmongRefusals of_a_table limit) v → (resolve {X = Result State Answer} v (record { state = opening t first; answer = accepted }) (λ q. record { state = no_state limit; answer = refused q })).answer ≡ refused r → AmongRefusals of_a_table limit r
-    by faultless h f = let z : ◌≡◌ {A = ℕ} 0 1 = cc in absurd (omega arith)
-    by (fault q) h f = let same : q ≡ r = cc in rw same at (h q refl)
+    refuses_by {Y = Result State Answer} (λ x. x.answer) (record { state = opening t first; answer = accepted }) (turned_down limit) refused
+    (AmongRefusals of_a_table limit) (start_verdict limit t first)
+    (refuses_then (AmongRefusals of_a_table limit) (admission_verdict limit t) _ (refuses_admission limit t) (λ ok. refuses_gate (AmongRefusals of_a_table limit) (refusal 12) (leb first max_slot) faultless (plain limit 12 refl refl) (refuses_none (AmongRefusals of_a_table limit))))
+    r (λ f. cc) (λ q f. cc) e
 
 pub start_names_below : StartNamesBelow
 unfolding begun
@@ -366,15 +361,13 @@ start_names_below limit bytes first r e = by (read_table limit bytes).answer ref
 
 pub carry_names_below : CarryNamesBelow
 unfolding carry
-carry_names_below old new o r e = by (carry_verdict old o) (refuses_gate Is23 (refusal 23) (sound old (as_state o)) faultless (refl, plain new 23 refl refl) (refuses_none Is23)) e
+carry_names_below old new o r e =
+    refuses_by {Y = Result State Answer} (λ x. x.answer) (record { state = longer (new - old) (as_state o); answer = accepted }) (turned_down new) refused Is23 (carry_verdict old o)
+    (refuses_gate Is23 (refusal 23) (sound old (as_state o)) faultless (refl, plain new 23 refl refl) (refuses_none Is23))
+    r (λ f. cc) (λ q f. cc) e
   where
     Is23 : Refusal → Type 0
     Is23 q = (q ≡ refusal 23) × AmongRefusals of_a_state new q
-
-    by : (v : Verdict) → Refuses Is23 v
-        → (resolve {X = Result State Answer} v (record { state = longer (new - old) (as_state o); answer = accepted }) (turned_down new)).answer ≡ refused r → Is23 r
-    by faultless h f = let z : ◌≡◌ {A = ℕ} 0 1 = cc in absurd (omega arith)
-    by (fault q) h f = let same : q ≡ r = cc in rw same at (h q refl)
 
 refuses_rule : (limit : ℕ) (s : State) (c : Call) → Refuses (AmongRefusals of_a_state limit) (rule_verdict s c)
 unfolding rule_verdict
@@ -383,21 +376,22 @@ refuses_rule limit s (post p count) =
     (refuses_gate (AmongRefusals of_a_state limit) (refusal 21) (leb (backlog (account_at p s.accounts) + count) max_backlog) faultless (plain limit 21 refl refl) (refuses_none (AmongRefusals of_a_state limit)))
 refuses_rule limit s slot = refuses_gate (AmongRefusals of_a_state limit) (refusal 22) (ltb s.slot.0 max_slot) faultless (plain limit 22 refl refl) (refuses_none (AmongRefusals of_a_state limit))
 
-outcome_fault : (v : Verdict) (s : State) (c : Call) (r : Refusal) → (outcome v s c).answer ≡ refused r → v ≡ fault r
+done_apart : (s : State) (c : Call) (r : Refusal) → (done s c).answer ≡ refused r → ⊥
 unfolding done
-outcome_fault faultless s (post p count) r e = let z : ◌≡◌ {A = ℕ} 0 1 = cc in absurd (omega arith)
-outcome_fault faultless s slot r e = never (grant_of s) e
+done_apart s (post p count) r e = cc
+done_apart s slot r e = never (grant_of s) e
   where
-    never : (g : Grant) → slot_answer s.slot.0 g ≡ refused r → faultless ≡ fault r
-    never Nobody f = let z : ◌≡◌ {A = ℕ} 0 1 = cc in absurd (omega arith)
-    never (Place p) f = let z : ◌≡◌ {A = ℕ} 0 1 = cc in absurd (omega arith)
-outcome_fault (fault q) s c r e = let same : q ≡ r = cc in ap fault same
+    never : (g : Option ℕ) → slot_answer s.slot.0 g ≡ refused r → ⊥
+    never None f = cc
+    never (Some p) f = cc
 
 pub calls_name_below : CallsNameBelow
 unfolding called
 calls_name_below limit s c r e =
-    let v = gate (refusal 23) (sound limit s) (rule_verdict s c) in
-    refuses_gate (AmongRefusals of_a_state limit) (refusal 23) (sound limit s) (rule_verdict s c) (plain limit 23 refl refl) (refuses_rule limit s c) r (outcome_fault v s c r e)
+    refuses_by {Y = Result State Answer} (λ x. x.answer) (done s c) (λ q. record { state = s; answer = refused q }) refused (AmongRefusals of_a_state limit)
+    (gate (refusal 23) (sound limit s) (rule_verdict s c))
+    (refuses_gate (AmongRefusals of_a_state limit) (refusal 23) (sound limit s) (rule_verdict s c) (plain limit 23 refl refl) (refuses_rule limit s c))
+    r (done_apart s c r) (λ q f. cc) e
 
 refuses_input : (limit bytes : ℕ) → Refuses (AmongRefusals of_a_state limit) (input_verdict bytes)
 unfolding input_verdict
@@ -406,13 +400,11 @@ refuses_input limit bytes = refuses_gate (AmongRefusals of_a_state limit) (refus
 pub runs_name_below : RunsNameBelow
 unfolding run run_verdict slots_verdict
 runs_name_below limit s log r e =
-    by (run_verdict limit s (length log))
+    refuses_by {Y = Outcome} (λ x. x.answer) (record { state = slots_state (length log) s; answer = accepted; log = slots_log (length log) s })
+    (λ q. record { state = s; answer = refused q; log = log }) refused (AmongRefusals of_a_state limit) (run_verdict limit s (length log))
     (refuses_gate (AmongRefusals of_a_state limit) (refusal 23) (sound limit s) _ (plain limit 23 refl refl)
-    (refuses_then (AmongRefusals of_a_state limit) (input_verdict (length log)) _ (refuses_input limit (length log)) (λ ok. refuses_gate (AmongRefusals of_a_state limit) (refusal 22) (leb (s.slot.0 + length log) max_slot) faultless (plain limit 22 refl refl) (refuses_none (AmongRefusals of_a_state limit))))) e
-  where
-    by : (v : Verdict) → Refuses (AmongRefusals of_a_state limit) v → (resolve {X = Outcome} v (record { state = slots_state (length log) s; answer = accepted; log = slots_log (length log) s }) (λ q. record { state = s; answer = refused q; log = log })).answer ≡ refused r → AmongRefusals of_a_state limit r
-    by faultless h f = let z : ◌≡◌ {A = ℕ} 0 1 = cc in absurd (omega arith)
-    by (fault q) h f = let same : q ≡ r = cc in rw same at (h q refl)
+    (refuses_then (AmongRefusals of_a_state limit) (input_verdict (length log)) _ (refuses_input limit (length log)) (λ ok. refuses_gate (AmongRefusals of_a_state limit) (refusal 22) (leb (s.slot.0 + length log) max_slot) faultless (plain limit 22 refl refl) (refuses_none (AmongRefusals of_a_state limit)))))
+    r (λ f. cc) (λ q f. cc) e
 
 refuses_place : (P : Refusal → Type 0) → P (refusal 23) → P (refusal 11) → (limit : ℕ) (s : State) (p : ℕ) → Refuses P (place_verdict limit s p)
 unfolding place_verdict
@@ -428,15 +420,12 @@ few_places limit s p ok = (fair limit s.table (sound_table limit s (place_open l
 pub figures_name_below : FiguresNameBelow
 unfolding queries.figures queries.figures_verdict
 figures_name_below limit s p j r e =
-    by _ _ (queries.figures_verdict limit s p j)
-    (refuses_then (AmongRefusals of_a_state limit) (place_verdict limit s p) _ (refuses_query limit s p) (λ ok. refuses_held (AmongRefusals of_a_state limit) (need_bounds p) j (at_place limit 5 p refl refl (few ok)))) e
+    refuses_by (λ x. x) _ queries.refused queries.refused (AmongRefusals of_a_state limit) (queries.figures_verdict limit s p j)
+    (refuses_then (AmongRefusals of_a_state limit) (place_verdict limit s p) _ (refuses_query limit s p) (λ ok. refuses_held (AmongRefusals of_a_state limit) (need_bounds p) j (at_place limit 5 p refl refl (few ok))))
+    r (λ f. cc) (λ q f. cc) e
   where
     few : place_verdict limit s p ≡ faultless → p < limit
     few ok = omega (arith, (place_open limit s p ok).1, few_places limit s p ok)
-
-    by : (x y : ℕ) (v : Verdict) → Refuses (AmongRefusals of_a_state limit) v → resolve v (queries.figured x y) queries.refused ≡ queries.refused r → AmongRefusals of_a_state limit r
-    by x y faultless h f = let z : ◌≡◌ {A = ℕ} 0 1 = cc in absurd (omega arith)
-    by x y (fault q) h f = let same : q ≡ r = cc in rw same at (h q refl)
 
 -- a chain figure: 23 and 11, then 11 of each name and 16 of each place
 abbrev ChainRefusal : ℕ → Refusal → Type 0
@@ -457,17 +446,15 @@ chains_name_below limit s p names r e =
 pub leads_name_below : LeadsNameBelow
 unfolding leads.lead_query leads.lead_verdict
 leads_name_below limit s p log r e =
-    by _ (leads.lead_verdict limit s p (length log)) (refuses_then (AmongRefusals of_a_state limit) (place_verdict limit s p) _ (refuses_query limit s p) (λ ok. refuses_input limit (length log))) e
-  where
-    by : (x : ℤ) (v : Verdict) → Refuses (AmongRefusals of_a_state limit) v → resolve v (leads.lead x) leads.refused ≡ leads.refused r → AmongRefusals of_a_state limit r
-    by x faultless h f = let z : ◌≡◌ {A = ℕ} 0 1 = cc in absurd (omega arith)
-    by x (fault q) h f = let same : q ≡ r = cc in rw same at (h q refl)
+    refuses_by (λ x. x) _ leads.refused leads.refused (AmongRefusals of_a_state limit) (leads.lead_verdict limit s p (length log))
+    (refuses_then (AmongRefusals of_a_state limit) (place_verdict limit s p) _ (refuses_query limit s p) (λ ok. refuses_input limit (length log)))
+    r (λ f. cc) (λ q f. cc) e
 
 -- a table's bytes, written or not by a verdict
 module _ (P : Refusal → Type 0) where
   refuses_written : (v : Verdict) (t : Table) (buffer : List ℕ) → Refuses P v → (r : Refusal) → (writing.written_by v t buffer).answer ≡ writing.refused r → P r
-  refuses_written faultless t buffer h r f = let z : ◌≡◌ {A = ℕ} 0 1 = cc in absurd (omega arith)
-  refuses_written (fault q) t buffer h r f = let same : q ≡ r = cc in rw same at (h q refl)
+  refuses_written v t buffer h r e =
+      refuses_by {Y = writing.TableWritten} (λ x. x.answer) (writing.written_by faultless t buffer) (λ q. writing.written_by (fault q) t buffer) writing.refused P v h r (λ f. cc) (λ q f. cc) e
 
   refuses_room : (t : Table) (room : ℕ) → P (refusal 14) → Refuses P (writing.room_verdict t room)
   refuses_room t room h = refuses_gate P (refusal 14) (leb (length (writing.table_bytes t)) room) faultless h (refuses_none P)
@@ -487,8 +474,8 @@ module _ (limit : ℕ) where
   order_refusals = table_refusals of_an_order limit refl refl refl refl refl refl refl refl refl
 
   refuses_found : (t : Table) (o : Option (List Requestor)) (r : Refusal) → (found limit t o).answer ≡ refused r → OrderRefusal r
-  refuses_found t option.none r e = refuses_fault OrderRefusal (refusal 15) (plain limit 15 refl refl) r (let same : refusal 15 ≡ r = cc in ap fault same)
-  refuses_found t (option.some rows) r e = let z : ◌≡◌ {A = ℕ} 0 1 = cc in absurd (omega arith)
+  refuses_found t None r e = refuses_fault OrderRefusal (refusal 15) (plain limit 15 refl refl) r (let same : refusal 15 ≡ r = cc in ap fault same)
+  refuses_found t (Some rows) r e = absurd cc
 
   refuses_order_read : (x : Read Table) → ReadRefuses OrderRefusal x → (r : Refusal) → (order_read limit x).answer ≡ refused r → OrderRefusal r
   unfolding order_read listed_verdict
@@ -526,8 +513,7 @@ orders_name_below limit bytes buffer r e = by (order_read limit (numbers_read li
 
 -- a query that its checks turn down
 refuses_looked : {X : Type 0} (limit : ℕ) (x : X) (v : Verdict) → Refuses (AmongRefusals of_a_state limit) v → (r : Refusal) → resolve v (look.looked x) look.refused ≡ look.refused r → AmongRefusals of_a_state limit r
-refuses_looked limit x faultless h r f = let z : ◌≡◌ {A = ℕ} 0 1 = cc in absurd (omega arith)
-refuses_looked limit x (fault q) h r f = let same : q ≡ r = cc in rw same at (h q refl)
+refuses_looked limit x v h r e = refuses_by (λ x. x) (look.looked x) look.refused look.refused (AmongRefusals of_a_state limit) v h r (λ f. cc) (λ q f. cc) e
 
 pub looks_name_below : LooksNameBelow
 unfolding look.account_query

@@ -1,10 +1,8 @@
 -- A refusal of any call has a number of section 12, the cause that goes with it, and a place exactly where it is 3, 4, 5, 7, 16 or 17: one
 -- that there is room for. So an outcome (clause 15.4) tells the refusal; 0 is no refusal, and 255 is none of theirs. What looks at a table
 -- that is handed in, what serves a state, an ordering and a chain figure have numbers of their own.
-use Rattle.std.specs.Prelude.{◌≡◌, Bool, true, false, eqb, List, ℕ, ◌<◌}
+use Rattle.std.specs.Prelude.{◌≡◌, Bool, true, false, eqb, List, ℕ, ◌<◌, Option, Some, None}
 use Rattle.lists.specs.Choices.{pick, in_range}
-use Rattle.terms.specs.declared.refusals.Named.{Named}
-use Rattle.terms.specs.declared.refusals.Named.TheVariants as named
 use Rattle.terms.specs.declared.refusals.Refusal.{Refusal}
 use Rattle.terms.specs.State.{State}
 use Rattle.terms.specs.Table.{Table}
@@ -24,9 +22,9 @@ use Rattle.ordered_bytes.specs.OrderBytes.{order_bytes}
 use Rattle.queries.specs.Look as look
 use Rattle.outcomes.specs.Outcomes.{refusal_code, wrong_length}
 
-abbrev pub Below : ℕ → Named → Type 0
-Below limit named.None = Unit {0}
-Below limit (named.Place p) = p < limit
+abbrev pub Below : ℕ → Option ℕ → Type 0
+Below limit None = Unit {0}
+Below limit (Some p) = p < limit
 
 -- the numbers of a start's refusals and of a table's writer: 1 to 10, 12, 14 and 17; none that a state causes
 abbrev pub of_a_table : ℕ → Bool
@@ -52,9 +50,9 @@ of_any_call n = pick (of_a_table n) true (pick (of_a_state n) true (pick (of_an_
 abbrev pub placed : ℕ → Bool
 placed n = pick (in_range 3 5 n) true (pick (eqb n 7) true (in_range 16 17 n))
 
-abbrev pub names_place : Named → Bool
-names_place named.None = false
-names_place (named.Place p) = true
+abbrev pub names_place : Option ℕ → Bool
+names_place None = false
+names_place (Some p) = true
 
 -- a refusal with one of these numbers
 pub record AmongRefusals (numbers : ℕ → Bool) (limit : ℕ) (r : Refusal) : Type 0 where

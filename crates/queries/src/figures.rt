@@ -7,27 +7,20 @@ ghost use Rattle.layout.specs.Words.{room_of_words, right_length, state_of};
 use admission::figures::{finish, wait};
 use arbiter::bounds::need_bounds;
 use soundness::place::check_place;
-use terms::answers::{FiguresAnswer, PlaceFigures};
-use terms::refusals::{Verdict, first_fault};
+use terms::answers::PlaceFigures;
+use terms::refusals::Cause;
 use terms::units::Transfers;
 
 // Refused: 23, 11, 5.
-pub fn figures_words(words: &[u64], place: usize, j: Transfers) -> FiguresAnswer
+#[tactic(auto, using(crate::proofs::Queries::query_checked, crate::proofs::Queries::query_below, crate::proofs::Queries::need_held, terms::proofs::Checks::held_by), unfolding(terms::specs::Queries::figures, terms::specs::Queries::figures_verdict, terms::specs::Refusals::then))]
+pub fn figures_words(words: &[u64], place: usize, j: Transfers) -> Result<PlaceFigures, Cause>
     requires { right_length max_places words.now ≡ true }
     ensures { figures_answer_of result ≡ figures (room_of_words words.now) (state_of words.now) place j.0 }
 {
-    let there = check_place(words, place);
-    let need = need_bounds(place).hold(j.0);
-    let verdict = first_fault(there, need);
-    match verdict {
-        Verdict::Fault(c) => FiguresAnswer::Refused(c),
-        Verdict::Faultless => {
-            let waiting = wait(words, place);
-            let done = finish(words, place, j);
-            FiguresAnswer::Figures(PlaceFigures {
-                wait: waiting,
-                finish: done,
-            })
-        }
-    }
+    check_place(words, place)?;
+    need_bounds(place).hold(j.0)?;
+    Ok(PlaceFigures {
+        wait: wait(words, place),
+        finish: finish(words, place, j),
+    })
 }

@@ -1,5 +1,5 @@
 // The queries about a state, or about a table, that is lent as words. Each leaves the words as they are. Words that are no sound state's get
-// 23; of the two writers one is lent a state that has been tested, and the other is told what admission found.
+// 23; of the two writers one asks admission first, and the other is lent a table that passed it.
 #![tactic(auto)]
 
 pub mod figures;

@@ -7,28 +7,31 @@ ghost use Rattle.queries.specs.Look.{account_query, standing, account_answer_of,
 use layout::words::{account, count, slot_number};
 use soundness::place::check_place;
 use soundness::soundness::is_sound;
-use terms::answers::{AccountAnswer, StandingAnswer};
-use terms::refusals::{Cause, StateRefusal, Verdict};
+use terms::answers::Standing;
+use terms::place::Account;
+use terms::refusals::{Cause, StateRefusal};
 
 // Refused: 23, 11.
-pub fn account_words(words: &[u64], place: usize) -> AccountAnswer
+#[tactic(auto, using(crate::proofs::Queries::query_account, crate::proofs::Queries::query_there), unfolding(crate::specs::Look::account_query))]
+pub fn account_words(words: &[u64], place: usize) -> Result<Account, Cause>
     requires { right_length max_places words.now ≡ true }
     ensures { account_answer_of result ≡ account_query (room_of_words words.now) (state_of words.now) place }
 {
-    let there = check_place(words, place);
-    match there {
-        Verdict::Fault(c) => AccountAnswer::Refused(c),
-        Verdict::Faultless => AccountAnswer::Account(account(words, place)),
-    }
+    check_place(words, place)?;
+    Ok(account(words, place))
 }
 
 // Refused: 23.
-pub fn standing_words(words: &[u64]) -> StandingAnswer
+#[tactic(auto, using(admission::proofs::Rows::head_there, crate::proofs::Queries::standing_unsound, crate::proofs::Queries::standing_looked), unfolding(layout::specs::Words::words_state))]
+pub fn standing_words(words: &[u64]) -> Result<Standing, Cause>
     requires { right_length max_places words.now ≡ true }
     ensures { standing_answer_of result ≡ standing (room_of_words words.now) (state_of words.now) }
 {
     if !is_sound(words) {
-        return StandingAnswer::Refused(Cause::State(StateRefusal::Unsound));
+        return Err(StateRefusal::Unsound.into());
     }
-    StandingAnswer::Stands(slot_number(words), count(words))
+    Ok(Standing {
+        slot: slot_number(words),
+        count: count(words),
+    })
 }

@@ -1,18 +1,19 @@
 -- Clause 10.8: a list of calls, given as numbers, made from a start, each on what its forerunner handed back. The calls are lent three
 -- numbers to a call, and each answer is written as three numbers, so that a caller in any language can read them.
-use Rattle.std.specs.Prelude.{◌≡◌, List, [], ◌∷◌, ℕ, zero, suc, ◌/◌, length, take}
+use Rattle.std.specs.Prelude.{List, [], ◌∷◌, ℕ, zero, suc, ◌/◌, length, take}
 use Rattle.lists.specs.Sums.{joined}
 use Rattle.lists.specs.Overwriting.{written_over}
 use Rattle.lists.specs.Runs.{Result, end, answers}
 use Rattle.terms.specs.Table.{Table}
 use Rattle.terms.specs.State.{State}
-use Rattle.arbiter.specs.declared.start.StartResult as code_result
-use Rattle.terms.specs.Answers.{Answer, accepted, granted, idle, refused, unless, start_answer_of}
+use Rattle.terms.specs.declared.answers.Outcome.{Outcome}
+use Rattle.terms.specs.Answers.{Answer, accepted, granted, idle, refused, unless, answer_of}
 use Rattle.terms.specs.Start.{start}
+use Rattle.arbiter.specs.declared.state.Arbiter.{Arbiter}
 use Rattle.arbiter.specs.ByValue.{held}
 use Rattle.rule.specs.Calls.{Call, post, slot, called}
-use Rattle.replay.specs.declared.Words.{Words}
-use Rattle.replay.specs.declared.Executed.{Executed}
+use Rattle.replay.specs.declared.Call as code
+use Rattle.replay.specs.declared.Call.TheVariants as code_call
 
 -- clause 10.8: a call is three numbers: what it is (0: a slot; else a post), the place, the count; a slot passes over the last two
 unfoldable pub call_of : (what place count : ℕ) → Call
@@ -69,15 +70,11 @@ continued limit begun calls old =
 unfoldable pub replay : ℕ → Table → (first : ℕ) → (calls old : List ℕ) → Replayed
 replay limit t first calls old = continued limit (start limit t first) calls old
 
--- the code's result and the lent answers in these values
-abbrev pub replayed_of : code_result.StartResult → (words : List ℕ) → Replayed
-replayed_of r words = record { state = held r.state; answer = start_answer_of r.answer; words = words }
+-- the code's outcome and the lent answers in these values
+abbrev pub replayed_of : Outcome Arbiter Unit → (words : List ℕ) → Replayed
+replayed_of o words = record { state = held o.after; answer = answer_of o.answer; words = words }
 
--- the code's three numbers as a list
-abbrev pub listed : Words → List ℕ
-listed w = w.0 ∷ w.1 ∷ w.2 ∷ []
-
--- the code made a call: the state that the call hands back, and the numbers of its answer
-pub record Executes (m : Executed) (r : Result State Answer) : Type 0 where
-  pub state : held m.state ≡ r.state
-  pub words : listed m.words ≡ answer_words r.answer
+-- what the code's call asks for
+abbrev pub asked : code.Call → Call
+asked code_call.Slot = slot
+asked (code_call.Post place count) = post place count.0

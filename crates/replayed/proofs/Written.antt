@@ -3,14 +3,15 @@ use Rattle.std.proofs.Common.{◌≡◌, refl, ap, sym, ◌∙◌, List, [], ◌
 use Rattle.lists.specs.Sums.{total, joined}
 use Rattle.lists.specs.Overwriting.{written_over}
 use Rattle.lists.specs.Runs.{Result, end, answers}
-use Rattle.lists.proofs.Runs.{length_answers}
+use Rattle.lists.proofs.Runs.{length_answers, answers_append}
 use Rattle.lists.proofs.Sums.{joined_append}
 use Rattle.terms.specs.declared.refusals.Refusal.{Refusal}
 use Rattle.terms.specs.Table.{Table}
 use Rattle.terms.specs.State.{State}
-use Rattle.terms.specs.Answers.{Answer, accepted, granted, idle, refused, start_answer_of}
+use Rattle.terms.specs.Answers.{Answer, accepted, granted, idle, refused, answer_of}
 use Rattle.terms.specs.Start.{start}
-use Rattle.arbiter.specs.declared.start.StartResult.{StartResult}
+use Rattle.terms.specs.declared.answers.Outcome.{Outcome}
+use Rattle.arbiter.specs.declared.state.Arbiter.{Arbiter}
 use Rattle.arbiter.specs.ByValue.{held}
 use Rattle.rule.specs.Calls.{Call, called}
 use Rattle.rule.specs.Grants.{to_place, to_first}
@@ -65,12 +66,6 @@ first_written k answered = counted _ _ one answered where
   one (refused r) = refl
 
 -- ---- the answers of a stretch, and their numbers
-
-module _ {S C A : Type 0} (step : S → C → Result S A) where
-  answers_append : (s : S) (calls more : List C) → answers step s (calls ++ more) ≡ answers step s calls ++ answers step (end step s calls) more
-  unfolding end answers
-  answers_append s [] more = refl
-  answers_append s (c ∷ calls) more = ap (λ answered. (step s c).answer ∷ answered) (answers_append (step s c).state calls more)
 
 -- the numbers in the middle of three lists of answers
 middle_written : (ahead answered behind : List Answer) (rest : List ℕ) (i m : ℕ) → length ahead ≡ i → length answered ≡ m
@@ -143,8 +138,8 @@ continued_refused : (limit : ℕ) (begun : Result State Answer) (calls old : Lis
 unfolding continued
 continued_refused limit begun calls old why a = rw a
 
-began : (limit : ℕ) (t : Table) (first : ℕ) (calls old : List ℕ) (r : StartResult) (words : List ℕ) → length t.requestors ≡ limit
-    → replayed_of r words ≡ replay limit t first calls old → start_answer_of r.answer ≡ accepted → Began limit t first calls old words (held r.state)
+began : (limit : ℕ) (t : Table) (first : ℕ) (calls old : List ℕ) (r : Outcome Arbiter Unit) (words : List ℕ) → length t.requestors ≡ limit
+    → replayed_of r words ≡ replay limit t first calls old → answer_of r.answer ≡ accepted → Began limit t first calls old words (held r.after)
 unfolding replay
 began limit t first calls old r words rows e a = start_ends limit t first
     (λ ok. record {
@@ -154,8 +149,7 @@ began limit t first calls old r words rows e a = start_ends limit t first
     })
     (λ why not.
     let told : refused why ≡ accepted = sym (ap (λ (x : Replayed). x.answer) e ∙ continued_refused limit (start limit t first) calls old why not) ∙ a in
-    let z : ◌≡◌ {A = ℕ} 0 1 = cc in
-    absurd (omega arith))
+    absurd cc)
 
 pub written_counts : WrittenCounts
 written_counts answered = (slots_written_lem answered, (λ p. grants_written_lem p answered), (λ k. first_written k answered))

@@ -5,9 +5,10 @@ use Rattle.lists.specs.Choices.{pick, in_range}
 use Rattle.terms.specs.Table.{Table, requestors_of}
 use Rattle.lists.specs.Runs.{answers}
 use Rattle.terms.specs.State.{State, credit, account_at}
-use Rattle.terms.specs.Answers.{Answer, accepted, start_answer_of}
+use Rattle.terms.specs.Answers.{Answer, accepted, answer_of}
+use Rattle.terms.specs.declared.answers.Outcome.{Outcome}
+use Rattle.arbiter.specs.declared.state.Arbiter.{Arbiter}
 use Rattle.arbiter.specs.ByValue.{held}
-use Rattle.arbiter.specs.declared.start.StartResult.{StartResult}
 use Rattle.rule.specs.Calls.{Call, ruled}
 use Rattle.guarantees.specs.Counts.{slots_in, grants_to, grants_to_first, Waits}
 use Rattle.guarantees.specs.ServiceBounds.{Ceiling, Floor, ruled_after}
@@ -63,7 +64,7 @@ pub record Keeps (t : Table) (first : ℕ) (made : List Call) (state : State) (w
 -- service bounds in the numbers that it wrote.
 abbrev pub ReplayKeepsServiceBounds : Type 0
 ReplayKeepsServiceBounds =
-    (limit : ℕ) (t : Table) (first : ℕ) (calls old : List ℕ) (r : StartResult) (words : List ℕ) → length t.requestors ≡ limit
+    (limit : ℕ) (t : Table) (first : ℕ) (calls old : List ℕ) (r : Outcome Arbiter Unit) (words : List ℕ) → length t.requestors ≡ limit
     → replayed_of r words ≡ replay limit t first calls old
-    → start_answer_of r.answer ≡ accepted
-    → Keeps t first (made_calls calls old) (held r.state) words
+    → answer_of r.answer ≡ accepted
+    → Keeps t first (made_calls calls old) (held r.after) words

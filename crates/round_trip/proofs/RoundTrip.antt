@@ -140,7 +140,7 @@ wrote_open limit t old k e = told (write_verdict limit t (length old)) refl e wh
   told faultless f g =
       let count : length (table_bytes t) ≡ k = cc in
       record { admitted = (then_open _ _ f).0; count = count; bytes = rw f (take_at (table_bytes t) (drop (length (table_bytes t)) old) k count) }
-  told (fault r) f g = let z : ◌≡◌ {A = ℕ} 0 1 = cc in absurd (omega arith)
+  told (fault r) f g = absurd cc
 
 pub written_reads_back : WrittenReadsBack
 written_reads_back limit t old k small long e = let w = wrote_open limit t old k e in rw w.bytes (table_reads limit t small long w.admitted)

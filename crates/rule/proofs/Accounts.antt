@@ -1,6 +1,5 @@
 -- One account in a slot: when its place is eligible, and what passing it over makes of it. Assumes nothing.
-use Rattle.std.proofs.Common.{◌≡◌, sym, true, false, ℕ, ◌+◌, ◌≤◌, ◌<◌, le_of_lt, arith, ltb-true, leb-true, leb-false, lt-ltb, le-ltb, ltb, leb}
-use native.Mathlib.Nat.{min-eq_right, min-eq_left}
+use Rattle.std.proofs.Common.{◌≡◌, sym, true, false, ℕ, ◌+◌, ◌≤◌, ◌<◌, arith, ltb-true, leb-true, leb-false, lt-ltb, le-ltb, ltb, leb}
 use Rattle.lists.proofs.Tests.{cases, true_false}
 use Rattle.terms.specs.declared.place.Requestor.{Requestor}
 use Rattle.terms.specs.declared.place.Account.{Account}
@@ -30,14 +29,6 @@ module _ (r : Requestor) (a : Account) where
   pub passed_waiting : 0 < backlog a → passed r a ≡ record { credit = a.credit + r.rate; backlog = a.backlog }
   unfolding passed
   passed_waiting h = rw (lt-ltb 0 (backlog a) h)
-
-  pub passed_capped : backlog a ≡ 0 → r.burst < a.credit + r.rate → passed r a ≡ record { credit = r.burst; backlog = a.backlog }
-  unfolding passed
-  passed_capped h l = rw (le-ltb 0 (backlog a) (omega arith), min-eq_right (le_of_lt l))
-
-  pub passed_below : backlog a ≡ 0 → a.credit + r.rate ≤ r.burst → passed r a ≡ record { credit = a.credit + r.rate; backlog = a.backlog }
-  unfolding passed
-  passed_below h l = rw (le-ltb 0 (backlog a) (omega arith), min-eq_left l)
 
   pub passed_most : (passed r a).credit ≤ a.credit + r.rate
   unfolding passed

@@ -1,13 +1,12 @@
 -- What one slot does to the credits of the first k places: together they rise by at most the rates, less D for a grant; and they
 -- stay within the bursts. Assumes nothing.
-use Rattle.std.proofs.Common.{◌≡◌, List, [], ◌∷◌, ℕ, zero, suc, ◌+◌, ◌*◌, ◌≤◌, ◌<◌, arith, length, take}
+use Rattle.std.proofs.Common.{◌≡◌, List, [], ◌∷◌, ℕ, zero, suc, ◌+◌, ◌*◌, ◌≤◌, ◌<◌, arith, length, take, None}
 use native.Mathlib.Decide.{ℕ_discrete}
 use Rattle.lists.specs.Sums.{total}
 use Rattle.terms.specs.declared.place.Requestor.{Requestor}
 use Rattle.terms.specs.declared.place.Account.{Account}
 use Rattle.terms.specs.Table.{rate, burst, requestor_at}
 use Rattle.terms.specs.State.{credit, backlog, account_at}
-use Rattle.rule.specs.declared.rule.Grant.TheVariants.{Nobody}
 use Rattle.rule.specs.Rule.{first_eligible, served, after}
 use Rattle.rule.proofs.Accounts.{passed_most, passed_within}
 use Rattle.rule.proofs.Head.{slotted, by_head, slotted_no_place, slotted_no_account, first_no_place, first_no_account}
@@ -19,7 +18,7 @@ abbrev pub Roomy : ℕ → List Requestor → List Account → Type 0
 Roomy d rs accounts = (p : ℕ) → p < length rs → 0 < backlog (account_at p accounts) → d ≤ (requestor_at p rs).burst
 
 after_idle_rise : (d k : ℕ) (rs : List Requestor) (accounts : List Account)
-    → total credit (take k (after d Nobody rs accounts)) ≤ total credit (take k accounts) + total rate (take k rs)
+    → total credit (take k (after d None rs accounts)) ≤ total credit (take k accounts) + total rate (take k rs)
 unfolding total after
 after_idle_rise d zero rs accounts = omega arith
 after_idle_rise d (suc k) [] accounts = omega arith

@@ -1,11 +1,9 @@
 -- What the rule does at the first of several places: it is granted, or passed over and the search goes on. Assumes nothing.
-use Rattle.std.proofs.Common.{◌≡◌, refl, true, false, List, [], ◌∷◌, ℕ, suc, ◌+◌, ◌≤◌, ◌<◌, arith, lt-ltb, ne_eqb}
+use Rattle.std.proofs.Common.{◌≡◌, refl, true, false, List, [], ◌∷◌, ℕ, suc, ◌+◌, ◌≤◌, ◌<◌, arith, lt-ltb, ne_eqb, Option, Some, None}
 use Rattle.lists.proofs.Tests.{cases}
 use Rattle.terms.specs.declared.place.Requestor.{Requestor}
 use Rattle.terms.specs.declared.place.Account.{Account}
 use Rattle.terms.specs.State.{backlog}
-use Rattle.rule.specs.declared.rule.Grant.{Grant}
-use Rattle.rule.specs.declared.rule.Grant.TheVariants.{Nobody, Place}
 use Rattle.rule.proofs.Accounts.{eligible_true, eligible_false}
 use Rattle.rule.specs.Rule.{eligible, later, first_eligible, served, passed, after}
 use Rattle.rule.specs.Grants.{to_place, to_first}
@@ -19,7 +17,7 @@ module _ (d : ℕ) (r : Requestor) (rs : List Requestor) (a : Account) (accounts
   pub record Granted : Type 0 where
     pub waiting : 0 < backlog a
     pub enough : d ≤ a.credit + r.rate
-    pub slotted_is : slotted d (r ∷ rs) (a ∷ accounts) ≡ served d r a ∷ after d Nobody rs accounts
+    pub slotted_is : slotted d (r ∷ rs) (a ∷ accounts) ≡ served d r a ∷ after d None rs accounts
     pub to_first_is : (k : ℕ) → to_first (suc k) (first_eligible d (r ∷ rs) (a ∷ accounts)) ≡ 1
     pub to_head_is : to_place 0 (first_eligible d (r ∷ rs) (a ∷ accounts)) ≡ 1
     pub to_tail_is : (p : ℕ) → to_place (suc p) (first_eligible d (r ∷ rs) (a ∷ accounts)) ≡ 0
@@ -31,10 +29,10 @@ module _ (d : ℕ) (r : Requestor) (rs : List Requestor) (a : Account) (accounts
     pub to_head_is : to_place 0 (first_eligible d (r ∷ rs) (a ∷ accounts)) ≡ 0
     pub to_tail_is : (p : ℕ) → to_place (suc p) (first_eligible d (r ∷ rs) (a ∷ accounts)) ≡ to_place p (first_eligible d rs accounts)
 
-  pub after_later : (g : Grant) → after d (later g) (r ∷ rs) (a ∷ accounts) ≡ passed r a ∷ after d g rs accounts
+  pub after_later : (g : Option ℕ) → after d (later g) (r ∷ rs) (a ∷ accounts) ≡ passed r a ∷ after d g rs accounts
   unfolding after later
-  after_later Nobody = refl
-  after_later (Place p) = refl
+  after_later None = refl
+  after_later (Some p) = refl
 
   pub head_granted : eligible d r a ≡ true → Granted
   unfolding slotted first_eligible after to_first to_place
@@ -65,16 +63,16 @@ pub slotted_no_place : (d : ℕ) (accounts : List Account) → slotted d [] acco
 unfolding slotted first_eligible after
 slotted_no_place d accounts = refl
 
-pub first_no_place : (d : ℕ) (accounts : List Account) → first_eligible d [] accounts ≡ Nobody
+pub first_no_place : (d : ℕ) (accounts : List Account) → first_eligible d [] accounts ≡ None
 unfolding first_eligible
 first_no_place d accounts = refl
 
-pub first_no_account : (d : ℕ) (rs : List Requestor) → first_eligible d rs [] ≡ Nobody
+pub first_no_account : (d : ℕ) (rs : List Requestor) → first_eligible d rs [] ≡ None
 unfolding first_eligible
 first_no_account d [] = refl
 first_no_account d (r ∷ rs) = refl
 
-pub after_no_account : (d : ℕ) (g : Grant) (rs : List Requestor) → after d g rs [] ≡ []
+pub after_no_account : (d : ℕ) (g : Option ℕ) (rs : List Requestor) → after d g rs [] ≡ []
 unfolding after
 after_no_account d g [] = refl
 after_no_account d g (r ∷ rs) = refl

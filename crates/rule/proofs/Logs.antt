@@ -1,5 +1,5 @@
 -- Slots one after the other: one slot more at the end, that the state stays sound, and their log in a lent buffer. Assumes nothing.
-use Rattle.std.proofs.Common.{◌≡◌, refl, ap, sym, ◌∙◌, true, false, List, [], ◌∷◌, ◌++◌, append-nil, ℕ, zero, suc, ◌+◌, ◌-◌, ◌≤◌, ◌<◌, zero-add, suc-add, arith, leb-true, length, set, take, drop, length-take, drop_of_length-le}
+use Rattle.std.proofs.Common.{◌≡◌, refl, ap, sym, ◌∙◌, true, false, List, [], ◌∷◌, ◌++◌, append-nil, ℕ, zero, suc, ◌+◌, ◌-◌, ◌≤◌, ◌<◌, zero-add, suc-add, arith, leb-true, length, set, take, drop, length-take, drop_of_length-le, Option, Some, None}
 use borrow.Rule.Slice.PartMut.{put_mid}
 use Rattle.lists.specs.Overwriting.{written_over}
 use Rattle.lists.proofs.Overwriting.{length_over, written_behind}
@@ -13,8 +13,6 @@ use Rattle.terms.specs.Answers.{Answer, accepted, refused}
 use Rattle.terms.specs.Input.{input_verdict}
 use Rattle.terms.proofs.Checks.{gate_open, then_open, gate_passed}
 use Rattle.terms.proofs.Sound.{Sound}
-use Rattle.rule.specs.declared.rule.Grant.{Grant}
-use Rattle.rule.specs.declared.rule.Grant.TheVariants.{Nobody, Place}
 use Rattle.rule.specs.Rule.{first_eligible}
 use Rattle.rule.specs.Calls.{grant_of, advanced}
 use Rattle.rule.specs.Log.{grant_byte, slots_state, slots_log, slots_verdict, run_verdict, Outcome, run}
@@ -24,11 +22,11 @@ use Rattle.rule.proofs.Kept.{fair_table, advanced_sound}
 -- ---- the byte of a grant
 
 -- a grant among the first n places has a byte of its own
-pub byte_of : (d n : ℕ) (rs : List Requestor) (accounts : List Account) (g : Grant) → n ≤ 255 → g ≡ first_eligible d (take n rs) accounts → grant_byte g < 256
-byte_of d n rs accounts Nobody few e = omega arith
-byte_of d n rs accounts (Place p) few e = omega (arith, (first_found d p (take n rs) accounts (sym e)).0, length-take n rs)
+pub byte_of : (d n : ℕ) (rs : List Requestor) (accounts : List Account) (g : Option ℕ) → n ≤ 255 → g ≡ first_eligible d (take n rs) accounts → grant_byte g < 256
+byte_of d n rs accounts None few e = omega arith
+byte_of d n rs accounts (Some p) few e = omega (arith, (first_found d p (take n rs) accounts (sym e)).0, length-take n rs)
 
-pub byte_fits : (s : State) (g : Grant) (places : ℕ) → Sound places s → places ≤ 255 → g ≡ grant_of s → grant_byte g < 256
+pub byte_fits : (s : State) (g : Option ℕ) (places : ℕ) → Sound places s → places ≤ 255 → g ≡ grant_of s → grant_byte g < 256
 unfolding grant_of
 byte_fits s g places v few e =
     byte_of s.table.denominator s.table.count s.table.requestors s.accounts g (omega (arith, (fair_table places s v).count_most)) e

@@ -1,6 +1,6 @@
 -- The lengths of a state's lists stay, whatever the calls; and a state with clear rows and accounts behind its own: the rule and every call
 -- on it are those of the state, and leave the same behind. Assumes nothing.
-use Rattle.std.proofs.Common.{◌≡◌, refl, ap, ◌∙◌, List, [], ◌∷◌, ◌++◌, ℕ, zero, suc, ◌+◌, ◌≤◌, ◌<◌, arith, ltb-true, ltb, length, replicate, length-take, length-set}
+use Rattle.std.proofs.Common.{◌≡◌, refl, ap, ◌∙◌, List, [], ◌∷◌, ◌++◌, ℕ, zero, suc, ◌+◌, ◌≤◌, ◌<◌, arith, ltb-true, ltb, length, replicate, length-take, length-set, Option, Some, None}
 use lib.Seq.{set-append_left}
 use Rattle.lists.specs.Runs.{Result}
 use Rattle.lists.proofs.Tests.{cases}
@@ -14,8 +14,6 @@ use Rattle.terms.specs.Answers.{Answer, accepted, refused}
 use Rattle.terms.specs.Input.{input_verdict}
 use Rattle.terms.specs.Longer.{longer}
 use Rattle.terms.proofs.Longer.{same_rows, few_places, same_sound, same_account}
-use Rattle.rule.specs.declared.rule.Grant.{Grant}
-use Rattle.rule.specs.declared.rule.Grant.TheVariants.{Nobody, Place}
 use Rattle.rule.specs.Rule.{first_eligible, after}
 use Rattle.rule.specs.Calls.{Call, post, slot, grant_of, advanced, with_post, done, rule_verdict, outcome, called}
 use Rattle.rule.specs.Log.{Outcome, grant_byte, slots_state, slots_log, slots_verdict, run_verdict, run}
@@ -23,7 +21,7 @@ use Rattle.rule.proofs.Slots.{after_length}
 
 -- ---- the lists stay as long
 
-pub slot_shaped : (room : ℕ) (s : State) (g : Grant) → Shaped room s → Shaped room (advanced s g)
+pub slot_shaped : (room : ℕ) (s : State) (g : Option ℕ) → Shaped room s → Shaped room (advanced s g)
 unfolding advanced
 slot_shaped room s g h = record {
   rows = h.rows;
@@ -73,14 +71,14 @@ first_same d [] accounts even h = refl
 first_same d (r ∷ rs) [] even h = absurd (omega arith)
 first_same d (r ∷ rs) (a ∷ accounts) even h = rw (first_same d rs accounts even (omega arith))
 
-after_same : (d : ℕ) (g : Grant) (rs : List Requestor) (accounts even : List Account) → length rs ≤ length accounts
+after_same : (d : ℕ) (g : Option ℕ) (rs : List Requestor) (accounts even : List Account) → length rs ≤ length accounts
     → after d g rs (accounts ++ even) ≡ after d g rs accounts ++ even
 unfolding after
 after_same d g [] accounts even h = refl
 after_same d g (r ∷ rs) [] even h = absurd (omega arith)
-after_same d Nobody (r ∷ rs) (a ∷ accounts) even h = rw (after_same d Nobody rs accounts even (omega arith))
-after_same d (Place zero) (r ∷ rs) (a ∷ accounts) even h = rw (after_same d Nobody rs accounts even (omega arith))
-after_same d (Place (suc p)) (r ∷ rs) (a ∷ accounts) even h = rw (after_same d (Place p) rs accounts even (omega arith))
+after_same d None (r ∷ rs) (a ∷ accounts) even h = rw (after_same d None rs accounts even (omega arith))
+after_same d (Some zero) (r ∷ rs) (a ∷ accounts) even h = rw (after_same d None rs accounts even (omega arith))
+after_same d (Some (suc p)) (r ∷ rs) (a ∷ accounts) even h = rw (after_same d (Some p) rs accounts even (omega arith))
 
 module _ (room extra : ℕ) (s : State) (v : Shaped room s) (few : s.table.count ≤ room) where
   abbrev places : List Requestor
@@ -94,12 +92,12 @@ module _ (room extra : ℕ) (s : State) (v : Shaped room s) (few : s.table.count
   same_grant =
       rw (same_rows room extra s.table v.rows few, first_same s.table.denominator places s.accounts (replicate extra no_account) enough)
 
-  same_slot : (g : Grant) → advanced (longer extra s) g ≡ longer extra (advanced s g)
+  same_slot : (g : Option ℕ) → advanced (longer extra s) g ≡ longer extra (advanced s g)
   unfolding advanced
   same_slot g =
       rw (same_rows room extra s.table v.rows few, after_same s.table.denominator g places s.accounts (replicate extra no_account) enough)
 
-  slot_few : (g : Grant) → (advanced s g).table.count ≤ room
+  slot_few : (g : Option ℕ) → (advanced s g).table.count ≤ room
   unfolding advanced
   slot_few g = few
 

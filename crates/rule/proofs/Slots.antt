@@ -1,32 +1,30 @@
 -- What one slot leaves of the accounts: their number, all past the last requestor, and each backlog less the grant.
 -- Assumes nothing.
-use Rattle.std.proofs.Common.{◌≡◌, refl, ap, List, [], ◌∷◌, ℕ, zero, suc, ◌+◌, arith, length, drop}
+use Rattle.std.proofs.Common.{◌≡◌, refl, ap, List, [], ◌∷◌, ℕ, zero, suc, ◌+◌, arith, length, drop, Option, Some, None}
 use Rattle.terms.specs.declared.place.Requestor.{Requestor}
 use Rattle.terms.specs.declared.place.Account.{Account}
 use Rattle.terms.specs.State.{backlog, account_at}
-use Rattle.rule.specs.declared.rule.Grant.{Grant}
-use Rattle.rule.specs.declared.rule.Grant.TheVariants.{Nobody, Place}
 use Rattle.rule.specs.Rule.{first_eligible, served, passed, after}
 use Rattle.rule.proofs.Head.{slotted, by_head, slotted_no_place, slotted_no_account, first_no_place, first_no_account}
 use Rattle.rule.specs.Grants.{to_place}
 
-pub after_length : (d : ℕ) (g : Grant) (rs : List Requestor) (accounts : List Account) → length (after d g rs accounts) ≡ length accounts
+pub after_length : (d : ℕ) (g : Option ℕ) (rs : List Requestor) (accounts : List Account) → length (after d g rs accounts) ≡ length accounts
 unfolding after
 after_length d g [] accounts = refl
 after_length d g (r ∷ rs) [] = refl
-after_length d Nobody (r ∷ rs) (a ∷ accounts) = ap suc (after_length d Nobody rs accounts)
-after_length d (Place zero) (r ∷ rs) (a ∷ accounts) = ap suc (after_length d Nobody rs accounts)
-after_length d (Place (suc p)) (r ∷ rs) (a ∷ accounts) = ap suc (after_length d (Place p) rs accounts)
+after_length d None (r ∷ rs) (a ∷ accounts) = ap suc (after_length d None rs accounts)
+after_length d (Some zero) (r ∷ rs) (a ∷ accounts) = ap suc (after_length d None rs accounts)
+after_length d (Some (suc p)) (r ∷ rs) (a ∷ accounts) = ap suc (after_length d (Some p) rs accounts)
 
-pub after_past : (d : ℕ) (g : Grant) (rs : List Requestor) (accounts : List Account) → drop (length rs) (after d g rs accounts) ≡ drop (length rs) accounts
+pub after_past : (d : ℕ) (g : Option ℕ) (rs : List Requestor) (accounts : List Account) → drop (length rs) (after d g rs accounts) ≡ drop (length rs) accounts
 unfolding after
 after_past d g [] accounts = refl
 after_past d g (r ∷ rs) [] = refl
-after_past d Nobody (r ∷ rs) (a ∷ accounts) = after_past d Nobody rs accounts
-after_past d (Place zero) (r ∷ rs) (a ∷ accounts) = after_past d Nobody rs accounts
-after_past d (Place (suc p)) (r ∷ rs) (a ∷ accounts) = after_past d (Place p) rs accounts
+after_past d None (r ∷ rs) (a ∷ accounts) = after_past d None rs accounts
+after_past d (Some zero) (r ∷ rs) (a ∷ accounts) = after_past d None rs accounts
+after_past d (Some (suc p)) (r ∷ rs) (a ∷ accounts) = after_past d (Some p) rs accounts
 
-after_idle_backlog : (d p : ℕ) (rs : List Requestor) (accounts : List Account) → backlog (account_at p (after d Nobody rs accounts)) ≡ backlog (account_at p accounts)
+after_idle_backlog : (d p : ℕ) (rs : List Requestor) (accounts : List Account) → backlog (account_at p (after d None rs accounts)) ≡ backlog (account_at p accounts)
 unfolding after passed
 after_idle_backlog d p [] accounts = refl
 after_idle_backlog d p (r ∷ rs) [] = refl

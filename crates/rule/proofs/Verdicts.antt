@@ -34,10 +34,6 @@ module _ (limit : ℕ) (s : State) (c : Call) where
   called_done e v = rw (e, v)
 
 module _ (s : State) (p count : ℕ) where
-  pub post_absent : s.table.count ≤ p → rule_verdict s (post p count) ≡ fault (refusal 11)
-  unfolding rule_verdict gate
-  post_absent h = rw (le-ltb _ _ h)
-
   pub post_over : p < s.table.count → max_backlog < backlog (account_at p s.accounts) + count → rule_verdict s (post p count) ≡ fault (refusal 21)
   unfolding rule_verdict gate
   post_over h over = rw (lt-ltb _ _ h, lt-leb _ _ over)

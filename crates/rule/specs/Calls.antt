@@ -1,15 +1,13 @@
 -- Posts and slots on a state: what each does and answers (clauses 5.1 to 5.6), what turns it down, and 23 in front. `ruled` is the rule's
 -- own step, which passes over what 11, 21 and 22 turn down; `called` is what the contracts of post and slot say.
-use Rattle.std.specs.Prelude.{ℕ, ◌+◌, ltb, leb, set}
+use Rattle.std.specs.Prelude.{ℕ, ◌+◌, ltb, leb, set, Option}
 use Rattle.lists.specs.Runs.{Result}
 use Rattle.terms.specs.declared.place.Account.{Account}
 use Rattle.terms.specs.State.{State, backlog, account_at, sound, at_place}
 use Rattle.terms.specs.Limits.{max_backlog, max_slot}
 use Rattle.terms.specs.Refusals.{Verdict, faultless, refusal, gate, resolve}
-use Rattle.terms.specs.Answers.{Answer, accepted, granted, idle, refused}
+use Rattle.terms.specs.Answers.{Answer, accepted, refused, slot_answer}
 use Rattle.terms.specs.Table.{requestors_of}
-use Rattle.rule.specs.declared.rule.Grant.{Grant}
-use Rattle.rule.specs.declared.rule.Grant.TheVariants.{Nobody, Place}
 use Rattle.rule.specs.Rule.{first_eligible, after}
 
 pub data Call : Type 0 where
@@ -17,11 +15,11 @@ pub data Call : Type 0 where
   slot : Call
 
 -- whom a slot grants (clause 5.2)
-unfoldable pub grant_of : State → Grant
+unfoldable pub grant_of : State → Option ℕ
 grant_of s = first_eligible s.table.denominator (requestors_of s.table) s.accounts
 
 -- the state after a slot that granted g: every account, and the slot number of clause 5.6
-unfoldable pub advanced : State → Grant → State
+unfoldable pub advanced : State → Option ℕ → State
 advanced s g = record {
   table = s.table;
   slot = record { 0 = s.slot.0 + 1 };
@@ -39,12 +37,7 @@ with_post s p count = record {
   accounts = set s.accounts p (with_count count (account_at p s.accounts));
 }
 
--- the slot is stamped with the number that it had (clause 5.6)
-abbrev pub slot_answer : ℕ → Grant → Answer
-slot_answer stamp Nobody = idle stamp
-slot_answer stamp (Place p) = granted stamp p
-
--- what an accepted call does and answers
+-- what an accepted call does and answers; a slot is stamped with the number that it had (clause 5.6)
 unfoldable pub done : State → Call → Result State Answer
 done s (post p count) = record { state = with_post s p count; answer = accepted }
 done s slot = record { state = advanced s (grant_of s); answer = slot_answer s.slot.0 (grant_of s) }

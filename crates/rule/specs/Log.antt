@@ -1,19 +1,17 @@
 -- Clause 6.1: a run over a lent log: a slot for each of its bytes, and into each byte the place that was granted, or 255 where nobody was.
 -- It is told slot by slot, each with the part of the log that is still to be written; without a byte there is no slot.
-use Rattle.std.specs.Prelude.{List, [], ◌∷◌, ℕ, zero, suc, ◌+◌, leb, length}
+use Rattle.std.specs.Prelude.{List, [], ◌∷◌, ℕ, zero, suc, ◌+◌, leb, length, Option, Some, None}
 use Rattle.terms.specs.State.{State, sound}
 use Rattle.terms.specs.Limits.{max_slot}
 use Rattle.terms.specs.Refusals.{Verdict, faultless, refusal, gate, then, resolve}
 use Rattle.terms.specs.Answers.{Answer, accepted, refused}
 use Rattle.terms.specs.Input.{input_verdict}
-use Rattle.rule.specs.declared.rule.Grant.{Grant}
-use Rattle.rule.specs.declared.rule.Grant.TheVariants.{Nobody, Place}
 use Rattle.rule.specs.Calls.{grant_of, advanced}
 
 -- the byte of a slot
-abbrev pub grant_byte : Grant → ℕ
-grant_byte Nobody = 255
-grant_byte (Place p) = p
+abbrev pub grant_byte : Option ℕ → ℕ
+grant_byte None = 255
+grant_byte (Some p) = p
 
 -- the state after so many slots, and their log (clause 6.1)
 unfoldable pub slots_state : ℕ → State → State

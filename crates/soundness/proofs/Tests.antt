@@ -1,15 +1,15 @@
 -- Test 23 is a row of tests. Assumes nothing.
-use Rattle.std.proofs.Common.{◌≡◌, refl, sym, ◌∙◌, Bool, true, false, ◌&&◌, List, ℕ, ◌≤◌, ◌<◌, le-leb, leb, length, drop, get_or}
-use borrow.Author.Tests.{lt-leb}
+use Rattle.std.proofs.Common.{◌≡◌, refl, sym, ◌∙◌, Bool, true, false, ◌&&◌, List, ℕ, leb, drop, get_or}
 use Rattle.lists.specs.Choices.{in_range}
 use Rattle.lists.specs.Sums.{total, every}
-use Rattle.lists.proofs.Tests.{and_false, in_range_true}
+use Rattle.lists.proofs.Tests.{cases, and_false, in_range_true}
 use Rattle.terms.specs.Table.{Table, rate, denominator_bounds, count_bounds, held_to, requestor_clear, requestors_of, fields_verdict, each_place, tail_verdict, rate_sum_verdict, verdict_by, table_verdict}
 use Rattle.terms.specs.State.{State, account_clear, is_faultless, accounts_hold, sound}
 use Rattle.terms.specs.Limits.{max_denominator, max_slot}
 use Rattle.terms.specs.Refusals.{then}
 use Rattle.terms.proofs.AsTests.{both, gated, within}
-use Rattle.layout.specs.Words.{place_start, word_count, room_of_words, words_state, state_of, is_zero}
+use Rattle.layout.specs.Words.{place_start, room_of_words, right_length, words_state, state_of, is_zero}
+use Rattle.layout.proofs.RoundTrip.{right}
 use Rattle.layout.proofs.Stores.{clear_from}
 use Rattle.soundness.specs.Soundness.{places_hold}
 
@@ -70,51 +70,20 @@ module _ (limit : ℕ) (s : State) where
       (leb (total rate (requestors_of s.table)) s.table.denominator)
       (leb s.slot.0 max_slot) (accounts_hold n s.table.requestors s.accounts) (every account_clear (drop n s.accounts)))
 
--- ---- the tests of words, one after the other: what each way out comes to
+-- ---- the tests of words, in the order in which they are made
 
-module _ (words : List ℕ) where
-  abbrev room : ℕ
-  room = room_of_words words
-
-  abbrev count : ℕ
-  count = get_or words 1 0
-
-  abbrev verdict : Bool
-  verdict = sound room (state_of words)
-
-  -- D is within its limits
-  abbrev DHolds : Type 0
-  DHolds = in_range 1 max_denominator (get_or words 0 0) ≡ true
-
-  pub d_out : in_range 1 max_denominator (get_or words 0 0) ≡ false → false ≡ verdict
-  unfolding words_state
-  d_out e = sym (sound_test room (state_of words) ∙ rw e)
-
-  pub n_none : DHolds → count < 1 → false ≡ verdict
-  unfolding words_state
-  n_none d h = sym (sound_test room (state_of words) ∙ rw (d, lt-leb 1 count h))
-
-  pub n_over : DHolds → room < count → false ≡ verdict
-  unfolding words_state
-  n_over d h =
-      let out : in_range 1 room count ≡ false = and_false (leb 1 count) (leb count room) (lt-leb count room h) in
-      sym (sound_test room (state_of words) ∙ rw (d, out))
-
-  pub slot_over : DHolds → in_range 1 room count ≡ true → max_slot < get_or words 2 0 → false ≡ verdict
-  unfolding words_state
-  slot_over d n h = sym (sound_test room (state_of words) ∙ rw (d, n, lt-leb (get_or words 2 0) max_slot h))
-
-  abbrev walk : Bool
-  walk = places_hold (get_or words 0 0) count (state_of words).table.requestors (state_of words).accounts
-
-  pub places_out : DHolds → in_range 1 room count ≡ true → get_or words 2 0 ≤ max_slot → walk ≡ false → false ≡ verdict
-  unfolding words_state
-  places_out d n h e = sym (sound_test room (state_of words) ∙ rw (d, n, le-leb (get_or words 2 0) max_slot h, e))
-
-  -- only the words past place N−1 are left to tell
-  pub rest_tells : DHolds → in_range 1 room count ≡ true → get_or words 2 0 ≤ max_slot → walk ≡ true → length words ≡ word_count room
-      → every is_zero (drop (place_start count) words) ≡ verdict
-  unfolding words_state
-  rest_tells d n h e long =
-      let few = (in_range_true 1 room count n).1 in
-      clear_from room count words long few ∙ sym (sound_test room (state_of words) ∙ rw (d, n, le-leb (get_or words 2 0) max_slot h, e))
+pub words_sound : (most : ℕ) (words : List ℕ) → right_length most words ≡ true
+    → sound (room_of_words words) (state_of words)
+    ≡ (in_range 1 max_denominator (get_or words 0 0)
+    && (in_range 1 (room_of_words words) (get_or words 1 0)
+    && (leb (get_or words 2 0) max_slot
+    && (places_hold (get_or words 0 0) (get_or words 1 0) (state_of words).table.requestors (state_of words).accounts
+    && every is_zero (drop (place_start (get_or words 1 0)) words)))))
+unfolding words_state
+words_sound most words ok =
+    let room = room_of_words words in
+    let n = get_or words 1 0 in
+    let s = state_of words in
+    cases (in_range 1 room n)
+    (λ on. let few = (in_range_true 1 room n on).1 in sound_test room s ∙ rw (clear_from room n words (right most words ok).long few))
+    (λ off. sound_test room s ∙ rw off)

@@ -6,16 +6,24 @@ use Rattle.lists.proofs.Tests.{cases, true_false, and_true, true_and, and_false,
 use Rattle.lists.proofs.Sums.{total_take_suc}
 use Rattle.terms.specs.declared.place.Requestor.{Requestor}
 use Rattle.terms.specs.declared.place.Account.{Account}
-use Rattle.terms.specs.Limits.{max_denominator, max_burst}
+use Rattle.terms.specs.Limits.{max_places, max_denominator, max_burst}
 use Rattle.terms.specs.Refusals.{Verdict, faultless, fault}
 use Rattle.terms.specs.Table.{rate, burst, no_requestor, fields_verdict, each_place}
 use Rattle.terms.specs.State.{credit, no_account, backlog_fits, credits_hold, is_faultless, accounts_hold}
 use Rattle.terms.proofs.Checks.{Row, row_open}
 use Rattle.terms.proofs.Places.{each_pass, each_stop, each_end}
 use Rattle.terms.proofs.Sound.{is_faultless_true}
+use Rattle.layout.specs.Words.{word_count, room_of_words, right_length, row_in, account_in, state_of}
+use Rattle.layout.proofs.RoundTrip.{right, words_shaped, row_at, account_at_lem}
 use Rattle.soundness.specs.Soundness.{places_hold}
 
-module _ (d n : ℕ) (rs : List Requestor) (accounts : List Account) where
+module _ (words : List ℕ) (d n : ℕ) where
+  abbrev rs : List Requestor
+  rs = (state_of words).table.requestors
+
+  abbrev accounts : List Account
+  accounts = (state_of words).accounts
+
   -- after p places: what is left to check of the rows, what the bursts leave after the credits, and that every test so far passed
   pub record Held (rates room p : ℕ) : Type 0 where
     pub below : p ≤ n
@@ -41,8 +49,25 @@ module _ (d n : ℕ) (rs : List Requestor) (accounts : List Account) where
   }
 
   -- the row and the account of the next place
-  module _ (rows_long : n ≤ length rs) (accounts_long : n ≤ length accounts) (rates room p : ℕ) (v : Held rates room p) (h : p < n)
-      (r : Requestor) (a : Account) (er : get_or rs p no_requestor ≡ r) (ea : get_or accounts p no_account ≡ a) where
+  module _ (ok : right_length max_places words ≡ true) (few : n ≤ room_of_words words) (rates room p : ℕ) (v : Held rates room p) (h : p < n) where
+    abbrev r : Requestor
+    r = row_in words p
+
+    abbrev a : Account
+    a = account_in words p
+
+    pub there : word_count (p + 1) ≤ length words
+    there = omega (arith, (right max_places words ok).long)
+
+    rows_long : n ≤ length rs
+    rows_long = omega (arith, (words_shaped (room_of_words words) words).rows)
+
+    er : get_or rs p no_requestor ≡ r
+    er = row_at (room_of_words words) words p (omega arith)
+
+    ea : get_or accounts p no_account ≡ a
+    ea = account_at_lem (room_of_words words) words p (omega arith)
+
     row_stops : (w : Verdict) → fields_verdict d p r ≡ w → is_faultless w ≡ false → is_faultless (each_place (fields_verdict d) 0 (take n rs)) ≡ false
     row_stops faultless e f = true_false f
     row_stops (fault x) e f = ap is_faultless (v.rows ∙ each_stop (fields_verdict d) rs n p rows_long h x (ap (fields_verdict d p) er ∙ e))
@@ -50,7 +75,7 @@ module _ (d n : ℕ) (rs : List Requestor) (accounts : List Account) where
     backlog_stops : backlog_fits a ≡ false → accounts_hold n rs accounts ≡ false
     unfolding accounts_hold
     backlog_stops f =
-        let inside : p < length (take n accounts) = simp length-take (omega arith) in
+        let inside : p < length (take n accounts) = simp length-take (omega (arith, (words_shaped (room_of_words words) words).accounts)) in
         rw (every_fails backlog_fits no_account (take n accounts) p inside (rw (get_or-take n accounts p no_account h, ea) f))
 
     -- a place that breaks a rule
@@ -73,34 +98,39 @@ module _ (d n : ℕ) (rs : List Requestor) (accounts : List Account) where
         let held = and_false (every backlog_fits (take n accounts)) (up_to n (credits_hold rs accounts)) fails in
         sym (and_false (is_faultless (each_place (fields_verdict d) 0 (take n rs))) _ (rw held))
 
-    -- one place more
-    pub held_row : (is_faultless (fields_verdict d p r) && backlog_fits a) ≡ true → Row d r
-    held_row e = row_open d p r (is_faultless_true (fields_verdict d p r) (and_true _ _ e).0)
+    module _ (e : (is_faultless (fields_verdict d p r) && backlog_fits a) ≡ true) where
+      row : Row d r
+      row = row_open d p r (is_faultless_true (fields_verdict d p r) (and_true _ _ e).0)
 
-    pub held_more : d ≤ max_denominator → (is_faultless (fields_verdict d p r) && backlog_fits a) ≡ true → a.credit ≤ room + r.burst
-        → Held (rates + r.rate) (room + r.burst - a.credit) (p + 1)
-    unfolding up_to
-    held_more few e l =
-        let b = and_true (is_faultless (fields_verdict d p r)) _ e in
-        let row = held_row e in
-        let cs = total_take_suc credit no_account refl p accounts in
-        let bs = total_take_suc burst no_requestor refl p rs in
-        let ns = total_take_suc rate no_requestor refl p rs in
-        let rest : each_place (fields_verdict d) 0 (take n rs) ≡ each_place (fields_verdict d) (p + 1) (drop (p + 1) (take n rs)) =
-        v.rows ∙ each_pass (fields_verdict d) rs n p rows_long h (ap (fields_verdict d p) er ∙ is_faultless_true (fields_verdict d p r) b.0) in
-        let left : room + r.burst - a.credit + total credit (take (suc p) accounts) ≡ total burst (take (suc p) rs) = omega (arith, cs, bs, v.room_is, ap credit ea, ap burst er) in
-        let sum : rates + r.rate ≡ total rate (take (suc p) rs) = omega (arith, ns, v.rates_are, ap rate er) in
-        let holds = le-leb (total credit (take (suc p) accounts)) (total burst (take (suc p) rs)) (omega arith) in
-        record {
-          below = omega arith;
-          rows = rest;
-          backlogs = rw (add-one p) (every_more backlog_fits no_account accounts p v.backlogs (ap backlog_fits ea ∙ b.1));
-          sums = rw (add-one p) (true_and (up_to p (credits_hold rs accounts)) _ v.sums holds);
-          room_is = rw (add-one p) left;
-          rates_are = rw (add-one p) sum;
-          room_fits = omega (arith, v.room_fits, row.burst_most);
-          rates_fit = omega (arith, v.rates_fit, row.rate_most);
-        }
+      -- the sums with this place's own
+      pub sums_small : d ≤ max_denominator → (rates + r.rate ≤ max_places * max_denominator) × (room + r.burst ≤ max_places * max_burst)
+      sums_small small =
+          let most : n ≤ max_places = omega (arith, (right max_places words ok).room_most) in
+          (omega (arith, row.rate_most, v.rates_fit), omega (arith, row.burst_most, v.room_fits))
+
+      -- one place more
+      pub held_more : d ≤ max_denominator → a.credit ≤ room + r.burst → Held (rates + r.rate) (room + r.burst - a.credit) (p + 1)
+      unfolding up_to
+      held_more small l =
+          let b = and_true (is_faultless (fields_verdict d p r)) _ e in
+          let cs = total_take_suc credit no_account refl p accounts in
+          let bs = total_take_suc burst no_requestor refl p rs in
+          let ns = total_take_suc rate no_requestor refl p rs in
+          let rest : each_place (fields_verdict d) 0 (take n rs) ≡ each_place (fields_verdict d) (p + 1) (drop (p + 1) (take n rs)) =
+          v.rows ∙ each_pass (fields_verdict d) rs n p rows_long h (ap (fields_verdict d p) er ∙ is_faultless_true (fields_verdict d p r) b.0) in
+          let left : room + r.burst - a.credit + total credit (take (suc p) accounts) ≡ total burst (take (suc p) rs) = omega (arith, cs, bs, v.room_is, ap credit ea, ap burst er) in
+          let sum : rates + r.rate ≡ total rate (take (suc p) rs) = omega (arith, ns, v.rates_are, ap rate er) in
+          let holds = le-leb (total credit (take (suc p) accounts)) (total burst (take (suc p) rs)) (omega arith) in
+          record {
+            below = omega arith;
+            rows = rest;
+            backlogs = rw (add-one p) (every_more backlog_fits no_account accounts p v.backlogs (ap backlog_fits ea ∙ b.1));
+            sums = rw (add-one p) (true_and (up_to p (credits_hold rs accounts)) _ v.sums holds);
+            room_is = rw (add-one p) left;
+            rates_are = rw (add-one p) sum;
+            room_fits = omega (arith, v.room_fits, row.burst_most);
+            rates_fit = omega (arith, v.rates_fit, row.rate_most);
+          }
 
   -- all of them
   pub held_end : (rates room p : ℕ) → Held rates room p → n ≤ p → leb rates d ≡ places_hold d n rs accounts

@@ -7,18 +7,19 @@ ghost use Rattle.layout.specs.Words.{room_of_words, right_length, state_of};
 
 use crate::soundness::is_sound;
 use layout::words::count;
-use terms::refusals::{Cause, InputRefusal, StateRefusal, Verdict};
+use terms::refusals::{Cause, InputRefusal, StateRefusal};
 
 // 23, then 11: N is a number of places only once the words are known to be a state's.
-pub fn check_place(words: &[u64], place: usize) -> Verdict
+#[tactic(auto, using(admission::proofs::Rows::head_there, admission::proofs::Rows::count_word), unfolding(terms::specs::State::place_verdict, terms::specs::Refusals::gate))]
+pub fn check_place(words: &[u64], place: usize) -> Result<(), Cause>
     requires { right_length max_places words.now ≡ true }
     ensures { verdict_of result ≡ place_verdict (room_of_words words.now) (state_of words.now) place }
 {
     if !is_sound(words) {
-        return Verdict::Fault(Cause::State(StateRefusal::Unsound));
+        return Err(StateRefusal::Unsound.into());
     }
     if count(words) <= place {
-        return Verdict::Fault(Cause::Input(InputRefusal::NoSuchPlace));
+        return Err(InputRefusal::NoSuchPlace.into());
     }
-    Verdict::Faultless
+    Ok(())
 }

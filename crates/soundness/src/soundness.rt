@@ -16,11 +16,7 @@ use terms::place::{Account, Requestor};
 fn place_holds(d: u64, p: usize, r: Requestor, a: Account) -> bool
     ensures { result ≡ (is_faultless (state_row_verdict d p r) && backlog_fits a) }
 {
-    let q = a.backlog;
-    if !fields_hold(d, p, r) {
-        return false;
-    }
-    q.0 <= Arbiter::MAX_BACKLOG
+    fields_hold(d, p, r) && a.backlog.0 <= Arbiter::MAX_BACKLOG
 }
 
 // The rows and the accounts of the first n places. A credit can be any word, so credits are never added up: `room` is the bursts so far
@@ -31,45 +27,33 @@ fn places_hold(words: &[u64], d: u64, n: usize) -> bool
 {
     let mut rates: u64 = 0;
     let mut room: u64 = 0;
-    let mut p: usize = 0;
-    while p < n {
+    for p in 0..n {
         let r = requestor(words, p);
         let a = account(words, p);
         if !place_holds(d, p, r, a) {
             return false;
         }
-        rates = rates + r.rate;
-        room = room + r.burst;
+        rates += r.rate;
+        room += r.burst;
         if room < a.credit {
             return false;
         }
-        room = room - a.credit;
-        p = p + 1;
+        room -= a.credit;
     }
     rates <= d
 }
 
+#[tactic(auto, using(admission::proofs::Rows::head_there, layout::proofs::RoundTrip::right, crate::proofs::Tests::words_sound))]
 pub fn is_sound(words: &[u64]) -> bool
     requires { right_length max_places words.now ≡ true }
     ensures { result ≡ sound (room_of_words words.now) (state_of words.now) }
 {
     let d = denominator(words);
     let n = count(words);
-    let at = slot_number(words);
-    if !denominator_bounds().admits(d) {
-        return false;
-    }
-    if n < 1 {
-        return false;
-    }
-    if room_of(words) < n {
-        return false;
-    }
-    if Arbiter::MAX_SLOT < at.0 {
-        return false;
-    }
-    if !places_hold(words, d, n) {
-        return false;
-    }
-    is_clear_from(words, n)
+    denominator_bounds().admits(d)
+        && 1 <= n
+        && n <= room_of(words)
+        && slot_number(words).0 <= Arbiter::MAX_SLOT
+        && places_hold(words, d, n)
+        && is_clear_from(words, n)
 }

@@ -1,15 +1,18 @@
 -- A table's bytes are read into words: what the words are on the way, where a row is refused, and once all are read; and what the reading
 -- that is left in them says of the bytes. Assumes nothing.
-use Rattle.std.proofs.Common.{◌≡◌, refl, ap, sym, ◌∙◌, List, [], ◌∷◌, ℕ, suc, ◌+◌, ◌-◌, ◌≤◌, ◌<◌, arith, ne_eqb, length, take, drop}
+use Rattle.std.proofs.Common.{◌≡◌, refl, ap, sym, ◌∙◌, List, [], ◌∷◌, ℕ, suc, ◌+◌, ◌≤◌, ◌<◌, arith, true, false, eqb, ne_eqb, length}
 use Rattle.terms.specs.declared.refusals.Refusal.{Refusal}
 use Rattle.terms.specs.declared.place.Requestor.{Requestor}
+use Rattle.terms.specs.State.{State}
+use Rattle.terms.specs.Start.{no_state}
 use Rattle.terms.specs.Table.{Table, table_of, count_bounds, held_to}
 use Rattle.terms.specs.Refusals.{Verdict, faultless, fault, refusal, gate, then, resolve}
 use Rattle.terms.proofs.Checks.{held_open}
 use Rattle.table_bytes.specs.Reading.{Read, read, stop, next, row_read, left_verdict, places_read, places_by}
 use Rattle.table_bytes.proofs.Readings.{Sofar, sofar_none, sofar_next, done_stop, done_end}
-use Rattle.layout.specs.Words.{word_count, room_of_words, words_state, state_of, put_row}
-use Rattle.layout.proofs.Stores.{same_room, put_row_lem, put_row_length}
+use Rattle.layout.specs.Words.{word_count, words_state, state_of, put_row, with_table}
+use Rattle.layout.proofs.Laid.{state_with_room}
+use Rattle.layout.proofs.Stores.{put_row_lem, put_row_length}
 use Rattle.admission.specs.Checked.{table_in}
 use Rattle.starts.specs.Laying.{complete, unread, laid}
 
@@ -19,57 +22,51 @@ complete_unread e = let z : ◌≡◌ {A = ℕ} 0 1 = cc in absurd (omega arith)
 
 -- ---- row after row
 
--- Words that are as many as the old ones, with the first p rows of n laid into them: what is left of the bytes comes to the same as all of
--- them.
-pub record Reading (old bytes : List ℕ) (d n : ℕ) (words : List ℕ) (p : ℕ) (left : List ℕ) : Type 0 where
-  pub length_stands : length words ≡ length old
-  pub sofar : Sofar (room_of_words old) d n bytes (words_state (room_of_words old) words).table p left
+-- the first p rows of n stand in the words, and what is left of the bytes comes to the same as all of them
+pub record Reading (room d n : ℕ) (bytes words : List ℕ) (p : ℕ) (left : List ℕ) : Type 0 where
+  pub long : length words ≡ word_count room
+  pub sofar : Sofar room d n bytes (words_state room words).table p left
 
-module _ (entry old bytes : List ℕ) (d n : ℕ) (long : length entry ≡ word_count (room_of_words entry)) (stands : length old ≡ length entry) where
-  same_old : room_of_words old ≡ room_of_words entry
-  same_old = same_room entry old stands
+pub reading_none : (room d n : ℕ) (bytes words : List ℕ) → length words ≡ word_count room → state_of words ≡ with_table (no_state room) (table_of room d n [])
+    → Reading room d n bytes words 0 bytes
+reading_none room d n bytes words long e = record {
+  long = long;
+  sofar = sofar_none room d n bytes (words_state room words).table (ap (λ (s : State). s.table) (sym (state_with_room room words long) ∙ e));
+}
 
-  pub reading_none : (state_of old).table ≡ table_of (room_of_words entry) d n [] → Reading old bytes d n old 0 bytes
-  reading_none e = record {
-    length_stands = refl;
-    sofar = sofar_none (room_of_words old) d n bytes (state_of old).table (e ∙ ap (λ k. table_of k d n []) (sym same_old));
-  }
+module _ {room d n : ℕ} {bytes words : List ℕ} {p : ℕ} {left : List ℕ} (v : Reading room d n bytes words p left) where
+  -- N is within the room, so there is a place for one row more
+  module _ (h : p < n) (counted : held_to (count_bounds room) n ≡ faultless) where
+    inside : p < room
+    inside = omega (arith, (held_open (count_bounds room) n counted).1)
 
-  module _ (words : List ℕ) (p : ℕ) (left : List ℕ) (v : Reading old bytes d n words p left) where
-    same_words : room_of_words words ≡ room_of_words entry
-    same_words = same_room entry words (v.length_stands ∙ stands)
+    pub reading_there : word_count (p + 1) ≤ length words
+    reading_there = omega (arith, inside, v.long)
 
-    module _ (h : p < n) (counted : held_to (count_bounds (room_of_words entry)) n ≡ faultless) where
-      inside : p < room_of_words entry
-      inside = omega (arith, (held_open (count_bounds (room_of_words entry)) n counted).1)
+    pub reading_more : (r : Requestor) (rest : List ℕ) → row_read d p left ≡ read r rest → Reading room d n bytes (put_row words p r) (p + 1) rest
+    reading_more r rest e = record {
+      long = put_row_length words p r ∙ v.long;
+      sofar = rw (put_row_lem words p r room v.long inside) (sofar_next v.sofar r rest h inside e);
+    }
 
-      pub reading_there : word_count (p + 1) ≤ length words
-      reading_there = omega (arith, inside, v.length_stands, stands, long)
+  pub reading_stop : (why : Refusal) → p < n → row_read d p left ≡ stop why → unread why ≡ laid (places_read room d n bytes)
+  unfolding places_by next
+  reading_stop why h e = rw (done_stop v.sofar.done why h e)
 
-      pub reading_more : (next : List ℕ) (r : Requestor) (taken : ℕ) → next ≡ put_row words p r → row_read d p left ≡ read r (drop taken left)
-          → Reading old bytes d n next (p + 1) (take (length left - taken) (drop taken left))
-      reading_more next r taken e f =
-          let here : p < room_of_words old = omega (arith, inside, same_old) in
-          let words_long : length words ≡ word_count (room_of_words old) = omega (arith, v.length_stands, stands, long, same_old) in
-          rw e
-          (record {
-            length_stands = put_row_length words p r ∙ v.length_stands;
-            sofar = rw (put_row_lem words p r (room_of_words old) words_long here) (sofar_next v.sofar r taken h here f);
-          })
+  -- all rows stand there, and 10 is what can be found then
+  read_all : n ≤ p → resolve (left_verdict left) (complete (table_in words)) unread ≡ laid (places_read room d n bytes)
+  unfolding places_by next
+  read_all h =
+      let own : table_in words ≡ table_of room d n v.sofar.rows = ap (λ (s : State). s.table) (state_with_room room words v.long) ∙ v.sofar.table in
+      rw (done_end v.sofar.done h) (ap (λ t. resolve (left_verdict left) (complete t) unread) own)
 
-    pub reading_stop : (why : Refusal) → p < n → row_read d p left ≡ stop why → unread why ≡ laid (places_read (room_of_words entry) d n bytes)
-    unfolding places_by next
-    reading_stop why h e =
-        let stopped = done_stop v.sofar.done why h e in
-        rw stopped
+  pub reading_left : n ≤ p → eqb (length left) 0 ≡ false → unread (refusal 10) ≡ laid (places_read room d n bytes)
+  unfolding gate
+  reading_left h some = rw some at (read_all h)
 
-    pub reading_end : n ≤ p → resolve (left_verdict left) (complete (table_in words)) unread ≡ laid (places_read (room_of_words entry) d n bytes)
-    unfolding places_by next
-    reading_end h =
-        let sofar : Sofar (room_of_words entry) d n bytes (words_state (room_of_words entry) words).table p left = rw same_old at v.sofar in
-        let read_all = done_end sofar.done h in
-        let own : table_in words ≡ table_of (room_of_words entry) d n sofar.rows = ap (λ k. (words_state k words).table) same_words ∙ sofar.table in
-        rw read_all (ap (λ t. resolve (left_verdict left) (complete t) unread) own)
+  pub reading_end : n ≤ p → eqb (length left) 0 ≡ true → complete (table_in words) ≡ laid (places_read room d n bytes)
+  unfolding gate
+  reading_end h none = rw none at (read_all h)
 
 -- ---- what the words say of the bytes
 

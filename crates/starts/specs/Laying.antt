@@ -1,7 +1,7 @@
 -- A table read from its bytes into words, with the checks of clause 13.2 up to 10. What is checked of the whole table comes after that.
+use Rattle.std.specs.Prelude.{Result, Ok, Err}
+use Rattle.terms.specs.declared.refusals.Cause.{Cause}
 use Rattle.terms.specs.declared.refusals.Refusal.{Refusal}
-use Rattle.terms.specs.declared.refusals.Verdict as code
-use Rattle.terms.specs.declared.refusals.Verdict.TheVariants as code_verdict
 use Rattle.terms.specs.Refusals.{refusal_of, resolve}
 use Rattle.terms.specs.Table.{Table}
 use Rattle.table_bytes.specs.Reading.{Read, read, stop, left_verdict}
@@ -16,7 +16,7 @@ abbrev pub laid : Read Table → Laid
 laid (read t rest) = resolve (left_verdict rest) (complete t) unread
 laid (stop why) = unread why
 
--- the code's verdict, on words that are the table t
-abbrev pub laid_as : Table → code.Verdict → Laid
-laid_as t code_verdict.Faultless = complete t
-laid_as t (code_verdict.Fault c) = unread (refusal_of c)
+-- the code's answer, on words that are the table t
+abbrev pub laid_as : Table → Result Unit Cause → Laid
+laid_as t (Ok _) = complete t
+laid_as t (Err c) = unread (refusal_of c)

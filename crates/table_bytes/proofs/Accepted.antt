@@ -1,23 +1,18 @@
 -- What a reading that is not refused says of its bytes: what was read passes its checks, and its numbers' bytes stand in front of the
 -- rest. Assumes nothing.
-use Rattle.std.proofs.Common.{◌≡◌, refl, ap, sym, subst, ◌∙◌, List, [], ◌∷◌, ◌++◌, append-nil, append_assoc, ℕ, zero, suc, ◌≤◌, ◌<◌, arith, length, get_or, drop}
+use Rattle.std.proofs.Common.{◌≡◌, refl, ap, sym, subst, ◌∙◌, List, [], ◌∷◌, ◌++◌, append-nil, append_assoc, ℕ, zero, suc, ◌<◌, arith, length, get_or, drop}
 use Rattle.lists.specs.Sums.{joined}
 use Rattle.lists.specs.Overwriting.{written_over}
 use Rattle.lists.proofs.Sums.{joined_append}
-use Rattle.groups.specs.declared.reading.Reading as number
-use Rattle.groups.specs.declared.reading.Reading.TheVariants.{Number, Ended, Malformed}
-use Rattle.groups.specs.Groups.{number_of, number_bytes}
+use Rattle.groups.specs.Groups as number
+use Rattle.groups.specs.Groups.{Number, Ended, Malformed, number_of, number_bytes}
 use Rattle.groups.specs.Inverse.{Bytes, Form}
 use Rattle.groups.proofs.Inverse.{one_form}
 use Rattle.terms.specs.declared.refusals.Refusal.{Refusal}
-use Rattle.terms.specs.declared.refusals.Cause.{Cause}
 use Rattle.terms.specs.declared.place.Requestor.{Requestor}
 use Rattle.terms.specs.Table.{row_numbers, Bounds, rate_bounds, burst_bounds, need_bounds, within_bounds, held_to, fields_verdict, offered_row_verdict, need_fits_verdict, each_place}
 use Rattle.terms.specs.Refusals.{Verdict, faultless, fault, then}
-use Rattle.table_bytes.specs.declared.rows.Row.{Row}
-use Rattle.table_bytes.specs.declared.rows.Row.TheVariants as row
-use Rattle.table_bytes.specs.Reading.{Read, read, stop, next, read_as, checked_read, field_read, items_read, row_fields_read, row_read, rows_read, row_of, taken_by_row}
-use Rattle.table_bytes.proofs.Readings.{Took}
+use Rattle.table_bytes.specs.Reading.{Read, read, stop, next, read_as, checked_read, field_read, items_read, row_fields_read, row_read, rows_read}
 
 -- ---- what comes next has something to be read from
 
@@ -68,8 +63,9 @@ field_open b bytes x rest e = told (number_of bytes) refl (next_open (read_as by
   told Ended f step = stop_read step.first
   told Malformed f step = stop_read step.first
 
-pub took_held : {b : Bounds} {bytes : List ℕ} {x taken : ℕ} → Took b bytes x taken → held_to b x ≡ faultless
-took_held {b} {bytes} {x} {taken} t = (field_open b bytes x (drop taken bytes) t.same).held
+-- a number that was read is within its bounds
+pub field_held : (b : Bounds) (bytes : List ℕ) (x : ℕ) (rest : List ℕ) → field_read b bytes ≡ read x rest → held_to b x ≡ faultless
+field_held b bytes x rest e = (field_open b bytes x rest e).held
 
 -- ---- bytes
 
@@ -150,26 +146,9 @@ row_open d p bytes r rest e =
     let whole : RowRead (offered_row_verdict d p) bytes x.value x.left = record { passed = rw row.passed fits; spent = row.spent } in
     subst (λ l. RowRead (offered_row_verdict d p) bytes r l) behind (subst (λ z. RowRead (offered_row_verdict d p) bytes z x.left) same whole)
 
--- the four numbers of a row as the code hands them on, and what comes of them with 17
-module _ (d p : ℕ) (bytes : List ℕ) (f : Row) (reads : (row_of bytes f ≡ row_fields_read d p bytes) × (taken_by_row f ≤ length bytes)) where
-  pub row_refused : (c : Cause) → f ≡ row.Refused c → (row_of bytes f ≡ row_read d p bytes) × (taken_by_row f ≤ length bytes)
-  unfolding row_read next
-  row_refused c e = let stops = sym (ap (row_of bytes) e) ∙ reads.0 in (rw (sym stops) (ap (row_of bytes) e), reads.1)
-
-  module _ (r : Requestor) (taken : ℕ) (e : f ≡ row.Taken r taken) where
-    numbers : row_fields_read d p bytes ≡ read r (drop taken bytes)
-    numbers = sym reads.0 ∙ ap (row_of bytes) e
-
-    pub row_limits : fields_verdict d p r ≡ faultless
-    row_limits = (fields_open d p bytes r (drop taken bytes) numbers).passed
-
-    pub row_above : {why : Refusal} → fault why ≡ need_fits_verdict d p r → (stop why ≡ row_read d p bytes) × (0 ≤ length bytes)
-    unfolding row_read next
-    row_above above = (rw (numbers, sym above), omega arith)
-
-    pub row_whole : faultless ≡ need_fits_verdict d p r → (read r (drop taken bytes) ≡ row_read d p bytes) × (taken ≤ length bytes)
-    unfolding row_read next
-    row_whole fits = (rw (numbers, sym fits), rw e at reads.1)
+-- the row's own limits, which 17 stands on
+pub row_limits : (d p : ℕ) (bytes : List ℕ) (r : Requestor) (rest : List ℕ) → row_fields_read d p bytes ≡ read r rest → fields_verdict d p r ≡ faultless
+row_limits d p bytes r rest e = (fields_open d p bytes r rest e).passed
 
 -- ---- rows
 

@@ -5,12 +5,10 @@ use Rattle.lists.specs.Sums.{joined}
 use Rattle.lists.specs.Overwriting.{written_over}
 use Rattle.lists.proofs.Sums.{joined_next, length_joined_same}
 use Rattle.lists.proofs.Overwriting.{stored_behind}
-use Rattle.terms.specs.declared.refusals.Cause.{Cause}
-use Rattle.terms.specs.declared.refusals.Verdict as code
-use Rattle.terms.specs.declared.refusals.Verdict.TheVariants as code-verdict
+use Rattle.terms.specs.declared.refusals.Refusal.{Refusal}
 use Rattle.terms.specs.declared.place.Requestor.{Requestor}
 use Rattle.terms.specs.Table.{Table, row_numbers, no_requestor, requestor_at, requestors_of, table_verdict}
-use Rattle.terms.specs.Refusals.{faultless, verdict_of, refusal, refusal_of, gate, then}
+use Rattle.terms.specs.Refusals.{faultless, fault, refusal, gate, then}
 use Rattle.terms.specs.Figures.{admission_verdict}
 use Rattle.terms.proofs.Checks.{Row, fair}
 use Rattle.groups.specs.Groups.{number_bytes}
@@ -74,10 +72,9 @@ lent limit t numbers old long ok e =
 
 module _ (limit : ℕ) (t : Table) (old : List ℕ) where
   -- refused by the checks of a table given as numbers
-  pub write_refused : (v : code.Verdict) (c : Cause) → verdict_of v ≡ admission_verdict limit t → v ≡ code-verdict.Fault c
-      → ◌≡◌ {A = TableWritten} (record { answer = refused (refusal_of c); buffer = old }) (write_table limit t old)
+  pub write_refused : (why : Refusal) → admission_verdict limit t ≡ fault why → ◌≡◌ {A = TableWritten} (record { answer = refused why; buffer = old }) (write_table limit t old)
   unfolding write_table write_verdict then
-  write_refused v c e q = rw (← e, q)
+  write_refused why e = rw e
 
   module _ (ok : admission_verdict limit t ≡ faultless) (numbers : List ℕ) (size : ℕ) (n : numbers ≡ table_numbers t) (s : size ≡ length (joined number_bytes numbers)) where
     -- the bytes are the table's

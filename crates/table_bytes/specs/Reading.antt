@@ -1,20 +1,17 @@
 -- Clauses 3.2, 3.3 and 13.2: a table's bytes as they are read. Each number is read from what the one before it left, 8 or 9 if there is
 -- none, and held to its limits, 1 to 5, before the next; a place whose numbers have been read is checked for 17 before the next place; then
 -- come 10, 6 and 7. A refused reading hands back a table whose every field is 0 (clause 1.6).
-use Rattle.std.specs.Prelude.{List, [], ◌∷◌, ℕ, zero, suc, eqb, length, drop}
-use Rattle.groups.specs.declared.reading.Reading as number
-use Rattle.groups.specs.declared.reading.Reading.TheVariants.{Number, Ended, Malformed}
-use Rattle.groups.specs.Groups.{number_of}
+use Rattle.std.specs.Prelude.{List, [], ◌∷◌, ℕ, zero, suc, eqb, length, drop, Result, Ok, Err}
+use Rattle.std.specs.Borrow.{Bor}
+use Rattle.groups.specs.Groups as number
+use Rattle.groups.specs.Groups.{Number, Ended, Malformed, number_of}
+use Rattle.terms.specs.declared.refusals.Cause.{Cause}
 use Rattle.terms.specs.declared.refusals.Refusal.{Refusal}
 use Rattle.terms.specs.declared.place.Requestor.{Requestor}
 use Rattle.terms.specs.Table.{Table, table_of, Bounds, denominator_bounds, count_bounds, rate_bounds, burst_bounds, need_bounds, within_bounds, held_to, need_fits_verdict, rate_sum_verdict}
 use Rattle.terms.specs.Refusals.{Verdict, faultless, refusal, refusal_of, gate, then, resolve}
 use Rattle.terms.specs.Figures.{finishes_verdict}
 use Rattle.terms.specs.TableResult.{TableResult, accept, refuse}
-use Rattle.table_bytes.specs.declared.fields.Field.{Field}
-use Rattle.table_bytes.specs.declared.fields.Field.TheVariants as field
-use Rattle.table_bytes.specs.declared.rows.Row.{Row}
-use Rattle.table_bytes.specs.declared.rows.Row.TheVariants as row
 
 -- what a reading from the start of some bytes comes to: a value and the rest of the bytes, or a refusal
 pub data Read (X : Type 0) : Type 0 where
@@ -101,20 +98,7 @@ settled limit (stop r) = refuse limit r
 unfoldable pub read_table : ℕ → List ℕ → TableResult
 read_table limit bytes = settled limit (numbers_read limit bytes)
 
--- the code's results in these values: a field and a row with how many of the bytes they took
-abbrev pub field_of : List ℕ → Field → Read ℕ
-field_of bytes (field.Value x) = read x.value (drop x.taken bytes)
-field_of bytes (field.Refused c) = stop (refusal_of c)
-
-abbrev pub row_of : List ℕ → Row → Read Requestor
-row_of bytes (row.Taken r taken) = read r (drop taken bytes)
-row_of bytes (row.Refused c) = stop (refusal_of c)
-
--- how many bytes a field or a row took
-abbrev pub taken_by_field : Field → ℕ
-taken_by_field (field.Value x) = x.taken
-taken_by_field (field.Refused c) = 0
-
-abbrev pub taken_by_row : Row → ℕ
-taken_by_row (row.Taken r taken) = taken
-taken_by_row (row.Refused c) = 0
+-- the code's answers in these values: what was read, and the rest of the bytes as it stands in them
+abbrev pub read_of : {X : Type 0} → Result (X × Bor (List ℕ)) Cause → Read X
+read_of (Ok r) = read r.0 r.1.now
+read_of (Err c) = stop (refusal_of c)

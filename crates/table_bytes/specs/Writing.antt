@@ -1,15 +1,14 @@
 -- Clause 3.5: a table's bytes as they are written to the start of a lent buffer; what lies behind them stays. A refused writing writes no
 -- byte.
-use Rattle.std.specs.Prelude.{List, ◌∷◌, ℕ, leb, length}
+use Rattle.std.specs.Prelude.{List, ◌∷◌, ℕ, leb, length, Result, Ok, Err}
 use Rattle.lists.specs.Sums.{joined}
 use Rattle.lists.specs.Overwriting.{written_over}
 use Rattle.groups.specs.Groups.{number_bytes}
+use Rattle.terms.specs.declared.refusals.Cause.{Cause}
 use Rattle.terms.specs.declared.refusals.Refusal.{Refusal}
 use Rattle.terms.specs.Table.{Table, row_numbers, requestors_of}
 use Rattle.terms.specs.Refusals.{Verdict, faultless, refusal, refusal_of, gate, then, resolve}
 use Rattle.terms.specs.Figures.{admission_verdict}
-use Rattle.terms.specs.declared.answers.WriteAnswer as code
-use Rattle.terms.specs.declared.answers.WriteAnswer.TheVariants as code_answer
 
 -- D, N, and the four numbers of each place (clause 3.3)
 unfoldable pub table_numbers : Table → List ℕ
@@ -49,6 +48,6 @@ unfoldable pub write_table : ℕ → Table → (old : List ℕ) → TableWritten
 write_table limit t old = written_by (write_verdict limit t (length old)) t old
 
 -- the code's answer in these values
-abbrev pub write_answer_of : code.WriteAnswer → WriteAnswer
-write_answer_of (code_answer.Wrote bytes) = wrote bytes
-write_answer_of (code_answer.Refused c) = refused (refusal_of c)
+abbrev pub write_answer_of : Result ℕ Cause → WriteAnswer
+write_answer_of (Ok bytes) = wrote bytes
+write_answer_of (Err c) = refused (refusal_of c)

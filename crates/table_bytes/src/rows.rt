@@ -1,68 +1,38 @@
 // One row of a table: n, b, j and L, each read from the bytes that the one before it left, and then check 17.
-ghost use Rattle.std.specs.Prelude.{◌≡◌, ◌≤◌, length};
-ghost use Rattle.table_bytes.specs.Reading.{row_fields_read, row_read, row_of, taken_by_row};
+ghost use Rattle.std.specs.Prelude.{◌≡◌};
+ghost use Rattle.table_bytes.specs.Reading.{row_fields_read, row_read, read_of};
 
-use crate::fields::{Field, read_field};
+use crate::fields::read_field;
 use admission::needs::check_need_fits;
 use arbiter::bounds::{burst_bounds, need_bounds, rate_bounds, within_bounds};
 use terms::place::Requestor;
-use terms::refusals::{Cause, Verdict};
+use terms::refusals::Cause;
 use terms::units::{Slots, Transfers};
 
-// A row and how many bytes it takes.
-#[derive(Clone, Copy)]
-pub enum Row {
-    Taken(Requestor, usize),
-    Refused(Cause),
-}
-
 // The four numbers of place p at the start of the bytes, each within its limits.
-fn read_row_fields(bytes: &[u8], d: u64, p: usize) -> Row
-    ensures value { row_of bytes.now result ≡ row_fields_read d p bytes.now }
-    ensures there { taken_by_row result ≤ length bytes.now }
+#[tactic(auto, unfolding(crate::specs::Reading::row_fields_read, crate::specs::Reading::next))]
+fn read_row_fields(bytes: &[u8], d: u64, p: usize) -> Result<(Requestor, &[u8]), Cause>
+    ensures { read_of result ≡ row_fields_read d p bytes.now }
 {
-    let n = match read_field(bytes, rate_bounds(d, p)) {
-        Field::Value(x) => x,
-        Field::Refused(c) => return Row::Refused(c),
-    };
-    let after_n = n.taken;
-    let from_b = &bytes[after_n..];
-    let b = match read_field(from_b, burst_bounds(d, p)) {
-        Field::Value(x) => x,
-        Field::Refused(c) => return Row::Refused(c),
-    };
-    let after_b = b.taken;
-    let from_j = &from_b[after_b..];
-    let j = match read_field(from_j, need_bounds(p)) {
-        Field::Value(x) => x,
-        Field::Refused(c) => return Row::Refused(c),
-    };
-    let after_j = j.taken;
-    let from_l = &from_j[after_j..];
-    let l = match read_field(from_l, within_bounds(p)) {
-        Field::Value(x) => x,
-        Field::Refused(c) => return Row::Refused(c),
-    };
+    let (rate, bytes) = read_field(bytes, rate_bounds(d, p))?;
+    let (burst, bytes) = read_field(bytes, burst_bounds(d, p))?;
+    let (need, bytes) = read_field(bytes, need_bounds(p))?;
+    let (within, bytes) = read_field(bytes, within_bounds(p))?;
     let row = Requestor {
-        rate: n.value as u64,
-        burst: b.value as u64,
-        need: Transfers(j.value as u64),
-        within: Slots(l.value as u64),
+        rate: rate as u64,
+        burst: burst as u64,
+        need: Transfers(need as u64),
+        within: Slots(within as u64),
     };
-    Row::Taken(row, after_n + after_b + after_j + l.taken)
+    Ok((row, bytes))
 }
 
-// The row of place p at the start of the bytes.
-pub fn read_row(bytes: &[u8], d: u64, p: usize) -> Row
-    ensures value { row_of bytes.now result ≡ row_read d p bytes.now }
-    ensures there { taken_by_row result ≤ length bytes.now }
+// The row of place p at the start of the bytes. Refused: 3, 4, 5, 8 and 9 as its numbers are read, then 17.
+#[tactic(auto, using(crate::proofs::Accepted::row_limits), unfolding(crate::specs::Reading::row_read, crate::specs::Reading::next))]
+pub fn read_row(bytes: &[u8], d: u64, p: usize) -> Result<(Requestor, &[u8]), Cause>
+    ensures { read_of result ≡ row_read d p bytes.now }
 {
-    let row = read_row_fields(bytes, d, p);
-    match row {
-        Row::Refused(_) => row,
-        Row::Taken(r, _) => match check_need_fits(d, p, r) {
-            Verdict::Fault(c) => Row::Refused(c),
-            Verdict::Faultless => row,
-        },
-    }
+    let (row, bytes) = read_row_fields(bytes, d, p)?;
+    check_need_fits(d, p, row)?;
+    Ok((row, bytes))
 }

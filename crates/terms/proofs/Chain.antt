@@ -1,6 +1,5 @@
 -- What names that pass check 11 say, and a chain figure that was told. Assumes nothing.
-use Rattle.std.proofs.Common.{◌≡◌, refl, ap, List, [], ◌∷◌, ◌++◌, ℕ, zero, suc, ◌<◌, zero-add, arith, ltb-true, length}
-use mathlib.Core.Option.{Option, none, some}
+use Rattle.std.proofs.Common.{◌≡◌, refl, ap, List, [], ◌∷◌, ◌++◌, ℕ, zero, suc, ◌<◌, zero-add, arith, ltb-true, length, Option, None, Some}
 use Rattle.terms.specs.declared.refusals.Refusal.{Refusal}
 use Rattle.terms.specs.Refusals.{Verdict, faultless, fault, then, resolve}
 use Rattle.terms.specs.Table.{Table, requestors_of}
@@ -19,8 +18,8 @@ below_more n (q ∷ links) p (g, b) h = (g, below_more n links p b h)
 
 -- the place followed, if there is one, is one of the first n
 abbrev pub BelowIf : (n : ℕ) → Option ℕ → Type 0
-BelowIf n none = Unit {0}
-BelowIf n (some p) = p < n
+BelowIf n None = Unit {0}
+BelowIf n (Some p) = p < n
 
 -- names that pass check 11
 module _ (t : Table) (names : List ℕ) (rows : length (requestors_of t) ≡ t.count) (ok : names_verdict t names ≡ faultless) where
@@ -29,16 +28,16 @@ module _ (t : Table) (names : List ℕ) (rows : length (requestors_of t) ≡ t.c
   followed_below p h = go (follows names p) refl
     where
       go : (o : Option ℕ) → follows names p ≡ o → BelowIf t.count o
-      go none e = tt
-      go (some q) e =
+      go None e = tt
+      go (Some q) e =
           let here = each_place_at (name_verdict t.count names) 0 (requestors_of t) ok p (omega arith) in
           ltb-true q t.count (rw e at (gate_open _ _ _ (rw (zero-add p) at here)).0)
 
   pub chain_below : (most : ℕ) (o : Option ℕ) → BelowIf t.count o → Below t.count (chain_to names most o)
   unfolding chain_to
   chain_below zero o b = tt
-  chain_below (suc most) none b = tt
-  chain_below (suc most) (some p) b = below_more t.count (chain_to names most (follows names p)) p (chain_below most (follows names p) (followed_below p b)) b
+  chain_below (suc most) None b = tt
+  chain_below (suc most) (Some p) b = below_more t.count (chain_to names most (follows names p)) p (chain_below most (follows names p) (followed_below p b)) b
 
 -- what the call comes to: the place or the state turns it down, or following does, or the figure is told
 module _ (limit : ℕ) (s : State) (p : ℕ) (names : List ℕ) where

@@ -1,18 +1,8 @@
 -- What a call answers. A slot has three ends (clause 5.6): a place is granted, nobody is, or the call is refused.
-use Rattle.std.specs.Prelude.{ℕ}
+use Rattle.std.specs.Prelude.{ℕ, Option, Some, None, Result, Ok, Err}
 use Rattle.terms.specs.declared.refusals.Refusal.{Refusal}
-use Rattle.terms.specs.declared.answers.StartAnswer.{StartAnswer}
-use Rattle.terms.specs.declared.answers.StartAnswer.TheVariants as start_answer
-use Rattle.terms.specs.declared.answers.PostAnswer.{PostAnswer}
-use Rattle.terms.specs.declared.answers.PostAnswer.TheVariants as post_answer
-use Rattle.terms.specs.declared.answers.SlotAnswer.{SlotAnswer}
-use Rattle.terms.specs.declared.answers.SlotAnswer.TheVariants as slot_answer
-use Rattle.terms.specs.declared.answers.RunAnswer.{RunAnswer}
-use Rattle.terms.specs.declared.answers.RunAnswer.TheVariants as run_answer
-use Rattle.terms.specs.declared.answers.ReadAnswer.{ReadAnswer}
-use Rattle.terms.specs.declared.answers.ReadAnswer.TheVariants as read_answer
-use Rattle.terms.specs.declared.answers.OrderAnswer.{OrderAnswer}
-use Rattle.terms.specs.declared.answers.OrderAnswer.TheVariants as order_answer
+use Rattle.terms.specs.declared.refusals.Cause.{Cause}
+use Rattle.terms.specs.declared.answers.Slot.{Slot}
 use Rattle.terms.specs.Refusals.{refusal_of}
 
 pub data Answer : Type 0 where
@@ -32,29 +22,15 @@ unless (granted stamp p) turned_down goes_on = goes_on
 unless (idle stamp) turned_down goes_on = goes_on
 unless (refused r) turned_down goes_on = turned_down r
 
--- the code's answers in these values
-abbrev pub start_answer_of : StartAnswer → Answer
-start_answer_of start_answer.Started = accepted
-start_answer_of (start_answer.Refused c) = refused (refusal_of c)
+-- the code's answers in these values: of a call that has nothing to tell but that it was carried out, and of a slot (clause 5.6)
+abbrev pub answer_of : Result Unit Cause → Answer
+answer_of (Ok _) = accepted
+answer_of (Err c) = refused (refusal_of c)
 
-abbrev pub post_answer_of : PostAnswer → Answer
-post_answer_of post_answer.Accepted = accepted
-post_answer_of (post_answer.Refused c) = refused (refusal_of c)
+abbrev pub slot_answer : (stamp : ℕ) → Option ℕ → Answer
+slot_answer stamp None = idle stamp
+slot_answer stamp (Some p) = granted stamp p
 
--- clause 5.6
-abbrev pub slot_answer_of : SlotAnswer → Answer
-slot_answer_of (slot_answer.Granted stamp p) = granted stamp.0 p
-slot_answer_of (slot_answer.Idle stamp) = idle stamp.0
-slot_answer_of (slot_answer.Refused c) = refused (refusal_of c)
-
-abbrev pub run_answer_of : RunAnswer → Answer
-run_answer_of run_answer.Ran = accepted
-run_answer_of (run_answer.Refused c) = refused (refusal_of c)
-
-abbrev pub read_answer_of : ReadAnswer → Answer
-read_answer_of read_answer.Accepted = accepted
-read_answer_of (read_answer.Refused c) = refused (refusal_of c)
-
-abbrev pub order_answer_of : OrderAnswer → Answer
-order_answer_of order_answer.Ordered = accepted
-order_answer_of (order_answer.Refused c) = refused (refusal_of c)
+abbrev pub slot_answer_of : Result Slot Cause → Answer
+slot_answer_of (Ok s) = slot_answer s.stamp.0 s.granted
+slot_answer_of (Err c) = refused (refusal_of c)

@@ -1,13 +1,12 @@
 -- Clauses 9.1 to 9.3: places that follow one another. With the call come names, a number for each place: whom it follows. The chain
 -- figure of a place sums finish figures along the chain that ends there.
-use Rattle.std.specs.Prelude.{Bool, true, not, List, [], ◌∷◌, ◌++◌, ℕ, zero, suc, ltb, eqb, get_or}
-use Rattle.std.proofs.Math.Option.{Option, none, some}
+use Rattle.std.specs.Prelude.{Bool, true, not, List, [], ◌∷◌, ◌++◌, ℕ, zero, suc, ltb, eqb, get_or, Result, Ok, Err, Option, None, Some}
 use Rattle.lists.specs.Choices.{pick}
 use Rattle.lists.specs.Sums.{total, every}
 use Rattle.terms.specs.declared.refusals.Refusal.{Refusal}
 use Rattle.terms.specs.declared.place.Requestor.{Requestor}
-use Rattle.terms.specs.declared.answers.ChainAnswer as code
-use Rattle.terms.specs.declared.answers.ChainAnswer.TheVariants as code_answer
+use Rattle.terms.specs.declared.refusals.Cause.{Cause}
+use Rattle.terms.specs.declared.units.Slots.{Slots}
 use Rattle.terms.specs.Refusals.{Verdict, faultless, refusal_of, refusal, refusal_at, gate, then, resolve}
 use Rattle.terms.specs.Table.{Table, requestors_of, each_place}
 use Rattle.terms.specs.State.{State, place_verdict}
@@ -19,7 +18,7 @@ nobody = 255
 
 -- whom a name stands for (clause 9.1)
 unfoldable pub named : ℕ → Option ℕ
-named x = pick (eqb x nobody) none (some x)
+named x = pick (eqb x nobody) None (Some x)
 
 -- whom place p follows; a place that no name is given for follows nobody (clause 9.1)
 unfoldable pub follows : List ℕ → ℕ → Option ℕ
@@ -29,12 +28,12 @@ follows names p = named (get_or names p nobody)
 -- off after `most` links, counted from its end; that N are enough is a theorem (chains, Claims).
 unfoldable pub chain_to : List ℕ → (most : ℕ) → Option ℕ → List ℕ
 chain_to names zero o = []
-chain_to names (suc most) none = []
-chain_to names (suc most) (some p) = chain_to names most (follows names p) ++ (p ∷ [])
+chain_to names (suc most) None = []
+chain_to names (suc most) (Some p) = chain_to names most (follows names p) ++ (p ∷ [])
 
 -- the chain that ends at place p of a table (clause 9.2)
 abbrev pub chain_of : Table → List ℕ → ℕ → List ℕ
-chain_of t names p = chain_to names t.count (some p)
+chain_of t names p = chain_to names t.count (Some p)
 
 -- the finish figures for one transfer, summed over the links (clause 9.2)
 unfoldable pub chain_figure : Table → (links : List ℕ) → ℕ
@@ -42,8 +41,8 @@ chain_figure t links = total (λ p. finish t.denominator (requestors_of t) p 1) 
 
 -- clause 12.11 of whom a place follows: if it follows one, that is one of the table's n
 abbrev pub present : (n : ℕ) → Option ℕ → Bool
-present n none = true
-present n (some q) = ltb q n
+present n None = true
+present n (Some q) = ltb q n
 
 unfoldable pub name_verdict : (n : ℕ) → List ℕ → (place : ℕ) → Requestor → Verdict
 name_verdict n names p r = gate (refusal 11) (present n (follows names p)) faultless
@@ -76,6 +75,6 @@ unfoldable pub chain : ℕ → State → (place : ℕ) → (names : List ℕ) �
 chain limit s p names = resolve (chain_verdict limit s p names) (figured (chain_figure s.table (chain_of s.table names p))) refused
 
 -- the code's answer in these values
-abbrev pub chain_answer_of : code.ChainAnswer → ChainAnswer
-chain_answer_of (code_answer.Figure f) = figured f.0
-chain_answer_of (code_answer.Refused c) = refused (refusal_of c)
+abbrev pub chain_answer_of : Result Slots Cause → ChainAnswer
+chain_answer_of (Ok f) = figured f.0
+chain_answer_of (Err c) = refused (refusal_of c)

@@ -1,8 +1,8 @@
 -- Clause 7.4: the reported wait and the finish figure of a place for j transfers, as a call. Its 5 names the place that was asked for.
-use Rattle.std.specs.Prelude.{ℕ}
+use Rattle.std.specs.Prelude.{ℕ, Result, Ok, Err}
 use Rattle.terms.specs.declared.refusals.Refusal.{Refusal}
-use Rattle.terms.specs.declared.answers.FiguresAnswer as code
-use Rattle.terms.specs.declared.answers.FiguresAnswer.TheVariants as code_answer
+use Rattle.terms.specs.declared.refusals.Cause.{Cause}
+use Rattle.terms.specs.declared.answers.PlaceFigures.{PlaceFigures}
 use Rattle.terms.specs.State.{State, place_verdict}
 use Rattle.terms.specs.Refusals.{Verdict, refusal_of, then, resolve}
 use Rattle.terms.specs.Table.{requestors_of, need_bounds, held_to}
@@ -27,6 +27,6 @@ figures limit s p j =
     refused
 
 -- the code's answer in these values
-abbrev pub figures_answer_of : code.FiguresAnswer → FiguresAnswer
-figures_answer_of (code_answer.Figures f) = figured f.wait.0 f.finish.0
-figures_answer_of (code_answer.Refused c) = refused (refusal_of c)
+abbrev pub figures_answer_of : Result PlaceFigures Cause → FiguresAnswer
+figures_answer_of (Ok f) = figured f.wait.0 f.finish.0
+figures_answer_of (Err c) = refused (refusal_of c)

@@ -1,6 +1,6 @@
 -- Clauses 12.1 to 12.17 and 12.21 to 12.23: the number of each refusal, the place that it names, and what caused it; and how a series of
 -- checks picks the first fault (clause 1.5).
-use Rattle.std.specs.Prelude.{◌≡◌, Bool, ℕ}
+use Rattle.std.specs.Prelude.{◌≡◌, Bool, ℕ, Option, Some, None, Result, Ok, Err}
 use Rattle.lists.specs.Choices.{pick, in_range}
 use Rattle.terms.specs.declared.refusals.InputRefusal.{InputRefusal}
 use Rattle.terms.specs.declared.refusals.InputRefusal.TheVariants as input
@@ -8,13 +8,9 @@ use Rattle.terms.specs.declared.refusals.StateRefusal.{StateRefusal}
 use Rattle.terms.specs.declared.refusals.StateRefusal.TheVariants as state
 use Rattle.terms.specs.declared.refusals.Cause.{Cause}
 use Rattle.terms.specs.declared.refusals.Cause.TheVariants as cause
-use Rattle.terms.specs.declared.refusals.Named.{Named}
-use Rattle.terms.specs.declared.refusals.Named.TheVariants as named
 use Rattle.terms.specs.declared.refusals.Origin.{Origin}
 use Rattle.terms.specs.declared.refusals.Origin.TheVariants as origin
 use Rattle.terms.specs.declared.refusals.Refusal.{Refusal}
-use Rattle.terms.specs.declared.refusals.Verdict as code
-use Rattle.terms.specs.declared.refusals.Verdict.TheVariants as code_verdict
 
 -- the number of each refusal that the input causes (clauses 12.1 to 12.17)
 abbrev pub input_number : InputRefusal → ℕ
@@ -37,24 +33,24 @@ input_number (input.Circle p) = 16
 input_number (input.NeedAboveBurst p) = 17
 
 -- the place: 3, 4, 5, 7, 16 and 17 name one
-abbrev pub input_place : InputRefusal → Named
-input_place input.Denominator = named.None
-input_place input.Count = named.None
-input_place (input.Rate p) = named.Place p
-input_place (input.Burst p) = named.Place p
-input_place (input.Need p) = named.Place p
-input_place input.RateSum = named.None
-input_place (input.Finish p) = named.Place p
-input_place input.BytesEnd = named.None
-input_place input.NumberForm = named.None
-input_place input.BytesLeft = named.None
-input_place input.NoSuchPlace = named.None
-input_place input.FirstSlot = named.None
-input_place input.TooLong = named.None
-input_place input.BufferShort = named.None
-input_place input.NoOrder = named.None
-input_place (input.Circle p) = named.Place p
-input_place (input.NeedAboveBurst p) = named.Place p
+abbrev pub input_place : InputRefusal → Option ℕ
+input_place input.Denominator = None
+input_place input.Count = None
+input_place (input.Rate p) = Some p
+input_place (input.Burst p) = Some p
+input_place (input.Need p) = Some p
+input_place input.RateSum = None
+input_place (input.Finish p) = Some p
+input_place input.BytesEnd = None
+input_place input.NumberForm = None
+input_place input.BytesLeft = None
+input_place input.NoSuchPlace = None
+input_place input.FirstSlot = None
+input_place input.TooLong = None
+input_place input.BufferShort = None
+input_place input.NoOrder = None
+input_place (input.Circle p) = Some p
+input_place (input.NeedAboveBurst p) = Some p
 
 -- the number of each refusal that the state causes (clauses 12.21 to 12.23)
 abbrev pub state_number : StateRefusal → ℕ
@@ -65,7 +61,7 @@ state_number state.Unsound = 23
 -- number, place and cause of each case of the code's enum
 abbrev pub refusal_of : Cause → Refusal
 refusal_of (cause.Input i) = record { number = input_number i; place = input_place i; origin = origin.Input }
-refusal_of (cause.State s) = record { number = state_number s; place = named.None; origin = origin.State }
+refusal_of (cause.State s) = record { number = state_number s; place = None; origin = origin.State }
 
 -- the state is the cause of 21 to 29, among them numbers that are not given yet, and the input of every other
 abbrev pub origin_of : ℕ → Origin
@@ -77,20 +73,20 @@ CauseByNumber = (c : Cause) → (refusal_of c).origin ≡ origin_of (refusal_of 
 
 -- the refusal with number n, and the one that names place p
 abbrev pub refusal : ℕ → Refusal
-refusal n = record { number = n; place = named.None; origin = origin_of n }
+refusal n = record { number = n; place = None; origin = origin_of n }
 
 abbrev pub refusal_at : ℕ → ℕ → Refusal
-refusal_at n p = record { number = n; place = named.Place p; origin = origin_of n }
+refusal_at n p = record { number = n; place = Some p; origin = origin_of n }
 
 -- what checks find: no fault, or the first one
 pub data Verdict : Type 0 where
   faultless : Verdict
   fault : Refusal → Verdict
 
--- the code's verdict in these values
-abbrev pub verdict_of : code.Verdict → Verdict
-verdict_of code_verdict.Faultless = faultless
-verdict_of (code_verdict.Fault c) = fault (refusal_of c)
+-- what the code's checks answer, in these values
+abbrev pub verdict_of : {X : Type 0} → Result X Cause → Verdict
+verdict_of (Ok x) = faultless
+verdict_of (Err c) = fault (refusal_of c)
 
 -- refused unless the test passes; if it passes, what the rest finds (clause 1.5)
 unfoldable pub gate : Refusal → Bool → Verdict → Verdict

@@ -4,7 +4,7 @@ ghost use Rattle.lists.specs.Choices.{in_range};
 ghost use Rattle.terms.specs.Refusals.{verdict_of};
 ghost use Rattle.terms.specs.Table.{bounds_of, held_to};
 
-use crate::refusals::{Cause, InputRefusal, Verdict};
+use crate::refusals::{Cause, InputRefusal};
 
 #[derive(Clone, Copy)]
 pub struct Bounds {
@@ -25,13 +25,13 @@ impl Bounds {
     }
 
     // A number held to these bounds.
-    pub fn hold(self, x: u64) -> Verdict
+    #[tactic(auto, unfolding(crate::specs::Table::held_to, crate::specs::Refusals::gate))]
+    pub fn hold(self, x: u64) -> Result<(), Cause>
         ensures { verdict_of result ≡ held_to (bounds_of self) x }
     {
         if self.admits(x) {
-            return Verdict::Faultless;
+            return Ok(());
         }
-        let why = self.outside;
-        Verdict::Fault(Cause::Input(why))
+        Err(self.outside.into())
     }
 }

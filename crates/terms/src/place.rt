@@ -5,7 +5,7 @@ ghost use Rattle.terms.specs.Table.{no_requestor, requestor_clear};
 use crate::units::{Slots, Transfers};
 
 // One row of the table: the rate n, the burst b, and the need of j transfers within L slots.
-#[derive(Clone, Copy)]
+#[derive(Clone, Copy, PartialEq)]
 pub struct Requestor {
     pub rate: u64,
     pub burst: u64,
@@ -20,31 +20,19 @@ pub struct Account {
     pub backlog: Transfers,
 }
 
-// A row past place N-1: every field is 0.
-pub fn no_requestor() -> Requestor
-    ensures { result ≡ no_requestor }
-{
-    Requestor {
+impl Requestor {
+    // A row past place N-1: every field is 0.
+    pub const NONE: Requestor = Requestor {
         rate: 0,
         burst: 0,
         need: Transfers(0),
         within: Slots(0),
-    }
-}
+    };
 
-pub fn is_clear(r: Requestor) -> bool
-    ensures { result ≡ requestor_clear r }
-{
-    let need = r.need;
-    let within = r.within;
-    if r.rate != 0 {
-        return false;
+    // Whether it is such a row.
+    pub fn is_none(self) -> bool
+        ensures { result ≡ requestor_clear self }
+    {
+        self == Requestor::NONE
     }
-    if r.burst != 0 {
-        return false;
-    }
-    if need.0 != 0 {
-        return false;
-    }
-    within.0 == 0
 }

@@ -1,6 +1,7 @@
 // Why a call was refused: by its input or by the state it was handed, and inside what was wrong.
 ghost use Rattle.std.specs.Prelude.{◌≡◌};
-ghost use Rattle.terms.specs.Refusals.{input_number, input_place, state_number, refusal_of, verdict_of, then};
+ghost use Rattle.terms.specs.Refusals.{input_number, input_place, state_number, refusal_of};
+ghost use Rattle.terms.specs.declared.refusals.Cause.TheVariants as cause;
 
 // Clauses 12.1 to 12.17. Those that name a place hold it.
 #[derive(Clone, Copy)]
@@ -39,13 +40,6 @@ pub enum Cause {
     State(StateRefusal),
 }
 
-// The place that a refusal names.
-#[derive(Clone, Copy)]
-pub enum Named {
-    None,
-    Place(usize),
-}
-
 // What caused a refusal (clause 1.5).
 #[derive(Clone, Copy)]
 pub enum Origin {
@@ -53,19 +47,12 @@ pub enum Origin {
     State,
 }
 
-// A refusal: its number, the place it names, and what caused it.
+// A refusal: its number, the place it names if it names one, and what caused it.
 #[derive(Clone, Copy)]
 pub struct Refusal {
     pub number: u32,
-    pub place: Named,
+    pub place: Option<usize>,
     pub origin: Origin,
-}
-
-// What checks found: no fault, or the first one.
-#[derive(Clone, Copy)]
-pub enum Verdict {
-    Faultless,
-    Fault(Cause),
 }
 
 fn input_number(i: InputRefusal) -> u32
@@ -92,27 +79,17 @@ fn input_number(i: InputRefusal) -> u32
     }
 }
 
-fn input_place(i: InputRefusal) -> Named
+fn input_place(i: InputRefusal) -> Option<usize>
     ensures { result ≡ input_place i }
 {
     match i {
-        InputRefusal::Rate(p) => Named::Place(p),
-        InputRefusal::Burst(p) => Named::Place(p),
-        InputRefusal::Need(p) => Named::Place(p),
-        InputRefusal::Finish(p) => Named::Place(p),
-        InputRefusal::Circle(p) => Named::Place(p),
-        InputRefusal::NeedAboveBurst(p) => Named::Place(p),
-        InputRefusal::Denominator => Named::None,
-        InputRefusal::Count => Named::None,
-        InputRefusal::RateSum => Named::None,
-        InputRefusal::BytesEnd => Named::None,
-        InputRefusal::NumberForm => Named::None,
-        InputRefusal::BytesLeft => Named::None,
-        InputRefusal::NoSuchPlace => Named::None,
-        InputRefusal::FirstSlot => Named::None,
-        InputRefusal::TooLong => Named::None,
-        InputRefusal::BufferShort => Named::None,
-        InputRefusal::NoOrder => Named::None,
+        InputRefusal::Rate(p)
+        | InputRefusal::Burst(p)
+        | InputRefusal::Need(p)
+        | InputRefusal::Finish(p)
+        | InputRefusal::Circle(p)
+        | InputRefusal::NeedAboveBurst(p) => Some(p),
+        _ => None,
     }
 }
 
@@ -126,13 +103,19 @@ fn state_number(s: StateRefusal) -> u32
     }
 }
 
-// The first fault of two series of checks.
-pub fn first_fault(a: Verdict, b: Verdict) -> Verdict
-    ensures { verdict_of result ≡ then (verdict_of a) (verdict_of b) }
-{
-    match a {
-        Verdict::Faultless => b,
-        Verdict::Fault(_) => a,
+impl From<InputRefusal> for Cause {
+    ghost from_gives = { λ i c. c ≡ cause.Input i };
+
+    fn from(i: InputRefusal) -> Cause {
+        Cause::Input(i)
+    }
+}
+
+impl From<StateRefusal> for Cause {
+    ghost from_gives = { λ s c. c ≡ cause.State s };
+
+    fn from(s: StateRefusal) -> Cause {
+        Cause::State(s)
     }
 }
 
@@ -149,7 +132,7 @@ impl Cause {
             },
             Cause::State(s) => Refusal {
                 number: state_number(s),
-                place: Named::None,
+                place: None,
                 origin: Origin::State,
             },
         }

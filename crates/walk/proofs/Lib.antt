@@ -1,3 +1,2 @@
 -- The laws of a walk over the places of words.
-pub mod Passing
 pub mod Walked

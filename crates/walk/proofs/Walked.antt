@@ -1,241 +1,210 @@
--- A walk over the places of words: what the state is after the first p of them had their turn. Assumes nothing.
-use Rattle.std.proofs.Common.{◌≡◌, refl, ap, sym, ◌∙◌, Bool, true, false, List, ℕ, ◌+◌, ◌≤◌, ◌<◌, arith, eq-eqb, length, get_or, set, take, get_or-take, take-take, length-take-le}
+-- A walk over the places of words, in which the first p had their turn, and the rest is to come. Assumes nothing.
+use Rattle.std.proofs.Common.{◌≡◌, refl, ap, sym, ◌∙◌, Bool, true, false, List, [], ◌∷◌, ◌++◌, append_assoc, ℕ, suc, ◌+◌, ◌≤◌, ◌<◌, ◌^◌, add-one, arith, length, get_or, set, take, drop, drop-cons, drop_of_length-le, take-append-drop, get_or-take, length-take-le, Option, Some, None}
+use Rattle.std.proofs.lemmas.List.{take_more_set, drop-set-lt}
 use Rattle.terms.specs.declared.place.Requestor.{Requestor}
 use Rattle.terms.specs.declared.place.Account.{Account}
 use Rattle.terms.specs.State.{credit, no_account, account_at}
 use Rattle.terms.specs.Table.{rate, no_requestor, requestor_at}
-use Rattle.rule.specs.declared.rule.Grant.{Grant}
-use Rattle.rule.specs.declared.rule.Grant.TheVariants.{Nobody, Place}
-use Rattle.rule.specs.Rule.{eligible, served, passed, after}
+use Rattle.rule.specs.Rule.{eligible, first_eligible, later, served, passed, after}
+use Rattle.rule.proofs.Head.{slotted, slotted_no_place, head_granted, head_passed}
 use Rattle.layout.specs.Words.{word_count, room_of_words, row_in, account_in, words_state, state_of, put_account, with_accounts}
 use Rattle.layout.proofs.RoundTrip.{words_shaped, row_at, account_at_lem}
 use Rattle.layout.proofs.Stores.{put_account_lem, put_others, put_length, same_room}
-use Rattle.rule.specs.Grants.{account_after}
-use Rattle.rule.proofs.Updates.{after_none, after_more}
-use Rattle.rule.proofs.Search.{NoneBefore, none_more, first_at, first_none}
-use Rattle.walk.specs.Walk.{Turn, Roomy, grant_among, slot_among, passed_over}
-use Rattle.walk.proofs.Passing.{over_more, over_end, rest_passed, ahead_passed}
+use Rattle.walk.specs.Walk.{Roomy, grant_among, slot_among}
 
--- words that are old ones with other accounts
-pub record Moved (old words : List ℕ) (accounts : List Account) : Type 0 where
-  pub length_stands : length words ≡ length old
-  pub state : state_of words ≡ with_accounts (state_of old) accounts
+-- what a rule makes of rows and accounts
+abbrev Turns : Type 0
+Turns = List Requestor → List Account → List Account
 
-pub moved_none : (words : List ℕ) → Moved words words (state_of words).accounts
-moved_none words = record { length_stands = refl; state = refl }
+-- one place's turn: of what is to come from place p on, its account comes first
+turn : (rest behind : Turns) (rows : List Requestor) (accounts : List Account) (p : ℕ) (next : Account) → p < length rows → p < length accounts
+    → ((rs : List Requestor) (more : List Account) → rest (requestor_at p rows ∷ rs) (account_at p accounts ∷ more) ≡ next ∷ behind rs more)
+    → take (p + 1) (set accounts p next) ++ behind (drop (p + 1) rows) (drop (p + 1) (set accounts p next)) ≡ take p accounts ++ rest (drop p rows) (drop p accounts)
+turn rest behind rows accounts p next h k e =
+    rw (take_more_set accounts p next k, drop-set-lt (p + 1) accounts p next (omega arith), append_assoc, add-one)
+    (rw (drop-cons rows p no_requestor h, drop-cons accounts p no_account k, e) refl)
 
-module _ (old words : List ℕ) (accounts : List Account) (m : Moved old words accounts) (long : length old ≡ word_count (room_of_words old)) where
-  room_stands : room_of_words words ≡ room_of_words old
-  room_stands = same_room old words m.length_stands
+-- when all had it, nothing is to come
+over : (rest : Turns) (rows : List Requestor) (accounts : List Account) (p : ℕ) → length rows ≤ p → ((more : List Account) → rest [] more ≡ more)
+    → take p accounts ++ rest (drop p rows) (drop p accounts) ≡ accounts
+over rest rows accounts p h e = rw (drop_of_length-le rows h, e) (take-append-drop p accounts)
 
-  pub words_long : length words ≡ word_count (room_of_words words)
-  words_long = omega (arith, m.length_stands, room_stands)
+after_no_place : (d : ℕ) (accounts : List Account) → after d None [] accounts ≡ accounts
+unfolding after
+after_no_place d accounts = refl
 
-  module _ (p : ℕ) (h : p < room_of_words old) where
-    -- the row of a place stands, and its account is that of the list
-    pub moved_row : row_in words p ≡ row_in old p
-    moved_row =
-        sym (row_at (room_of_words words) words p (omega (arith, room_stands)))
-        ∙ ap (λ s. get_or s.table.requestors p no_requestor) m.state
-        ∙ row_at (room_of_words old) old p h
+-- a grant among the places from place p on, counted from place 0 on
+abbrev from_place : ℕ → Option ℕ → Option ℕ
+from_place p None = None
+from_place p (Some q) = Some (p + q)
 
-    pub moved_account : account_in words p ≡ account_at p accounts
-    moved_account =
-        sym (account_at_lem (room_of_words words) words p (omega (arith, room_stands)))
-        ∙ ap (λ s. get_or s.accounts p no_account) m.state
+from_none : (g : Option ℕ) → from_place 0 g ≡ g
+from_none None = refl
+from_none (Some q) = ap Some (omega arith)
 
-    pub moved_put : (a : Account) → Moved old (put_account words p a) (set accounts p a)
-    moved_put a =
-        let same = same_room words (put_account words p a) (put_length words p a) in
-        let put : state_of (put_account words p a) ≡ with_accounts (state_of words) (set (state_of words).accounts p a) =
-        ap (λ k. words_state k (put_account words p a)) same ∙ put_account_lem words p a (room_of_words words) words_long (omega (arith, room_stands)) in
-        record { length_stands = put_length words p a ∙ m.length_stands; state = put ∙ rw m.state }
+from_later : (p : ℕ) (g : Option ℕ) → from_place p (later g) ≡ from_place (suc p) g
+unfolding later
+from_later p None = refl
+from_later p (Some q) = ap Some (omega arith)
 
-    -- and then the list is the state's own
-    pub moved_account_put : (a : Account) → (state_of (put_account words p a)).accounts ≡ set accounts p a
-    moved_account_put a = ap (λ s. s.accounts) (moved_put a).state
+-- whom a slot grants that looks from place p on
+abbrev granted_from : (d p : ℕ) → List Requestor → List Account → Option ℕ
+granted_from d p rows accounts = from_place p (first_eligible d (drop p rows) (drop p accounts))
 
-pub moved_own : (old words : List ℕ) (accounts : List Account) → Moved old words accounts → Moved old words (state_of words).accounts
-moved_own old words accounts m = record {
-  length_stands = m.length_stands;
-  state = m.state ∙ ap (with_accounts (state_of old)) (sym (ap (λ s. s.accounts) m.state));
-}
+module _ (d : ℕ) (rows : List Requestor) (accounts : List Account) (p : ℕ) where
+  module _ (h : p < length rows) (k : p < length accounts) where
+    granted_here : eligible d (requestor_at p rows) (account_at p accounts) ≡ true → Some p ≡ granted_from d p rows accounts
+    unfolding first_eligible
+    granted_here e = rw (drop-cons rows p no_requestor h, drop-cons accounts p no_account k, e) (ap Some (omega arith))
 
--- ---- the places from `from` on are passed over
+    granted_later : eligible d (requestor_at p rows) (account_at p accounts) ≡ false → granted_from d (p + 1) rows accounts ≡ granted_from d p rows accounts
+    unfolding first_eligible
+    granted_later e = rw (add-one, drop-cons rows p no_requestor h, drop-cons accounts p no_account k, e) (sym (from_later p _))
 
-module _ (old : List ℕ) (from n : ℕ) where
+  granted_none : length rows ≤ p → None ≡ granted_from d p rows accounts
+  unfolding first_eligible
+  granted_none h = rw (drop_of_length-le rows h) refl
+
+module _ (old : List ℕ) (n : ℕ) where
   abbrev rows : List Requestor
-  rows = (state_of old).table.requestors
+  rows = take n (state_of old).table.requestors
 
-  abbrev first : List Requestor
-  first = take n rows
+  -- the rows stand, and so do the accounts from place p on; what is to come of these makes the whole
+  pub record Walked (rest : Turns) (whole : List Account) (words : List ℕ) (p : ℕ) : Type 0 where
+    pub length_stands : length words ≡ length old
+    pub state : state_of words ≡ with_accounts (state_of old) (state_of words).accounts
+    pub left : (q : ℕ) → p ≤ q → account_in words q ≡ account_in old q
+    pub to_come : take p (state_of words).accounts ++ rest (drop p rows) (drop p (state_of words).accounts) ≡ whole
 
-  pub record Passing (words : List ℕ) (p : ℕ) : Type 0 where
-    pub least : from ≤ p
-    pub below : p ≤ n
-    pub moved : Moved old words (state_of words).accounts
-    pub left : passed_over from first (state_of old).accounts ≡ passed_over p first (state_of words).accounts
-    pub later : (q : ℕ) → p ≤ q → account_in words q ≡ account_in old q
+  walked_none : (rest : Turns) → Walked rest (rest rows (state_of old).accounts) old 0
+  walked_none rest = record { length_stands = refl; state = refl; left = λ q l. refl; to_come = refl }
 
-  module _ (room : Roomy old from n) where
-    first_long : length first ≡ n
-    first_long = length-take-le n rows (omega (arith, (words_shaped (room_of_words old) old).rows, room.most))
+  module _ (room : Roomy old n) where
+    rows_long : length rows ≡ n
+    rows_long = length-take-le n (state_of old).table.requestors (omega (arith, (words_shaped (room_of_words old) old).rows, room.most))
 
-    first_row : (p : ℕ) → p < n → requestor_at p first ≡ row_in old p
-    first_row p h = get_or-take n rows p no_requestor h ∙ row_at (room_of_words old) old p (omega (arith, room.most))
+    module _ (rest : Turns) (whole : List Account) (words : List ℕ) (p : ℕ) (v : Walked rest whole words p) where
+      room_stands : room_of_words words ≡ room_of_words old
+      room_stands = same_room old words v.length_stands
 
-    pub passing_none : from ≤ n → Passing old from
-    passing_none h = record { least = omega arith; below = h; moved = moved_none old; left = refl; later = λ q l. refl }
+      walked_end : n ≤ p → ((more : List Account) → rest [] more ≡ more) → state_of words ≡ with_accounts (state_of old) whole
+      walked_end h e = v.state ∙ ap (with_accounts (state_of old)) (sym (over rest rows (state_of words).accounts p (omega (arith, rows_long)) e) ∙ v.to_come)
 
-    module _ (words : List ℕ) (p : ℕ) (v : Passing words p) (h : p < n) where
-      same_row : row_in words p ≡ row_in old p
-      same_row = moved_row old words _ v.moved room.long p (omega (arith, room.most))
-
-      pub passing_turn : Turn words p
-      passing_turn = record {
-        there = omega (arith, v.moved.length_stands, room.long, room.most);
-        sum = omega (arith, ap rate same_row, ap credit (v.later p (omega arith)), room.sums p v.least h);
+      walked_over : n ≤ p → ((more : List Account) → rest [] more ≡ more) → (behind : Turns) → ((more : List Account) → behind [] more ≡ more) → Walked behind whole words (p + 1)
+      walked_over h e behind f = record {
+        length_stands = v.length_stands;
+        state = v.state;
+        left = λ q l. v.left q (omega arith);
+        to_come =
+            over behind rows (state_of words).accounts (p + 1) (omega (arith, rows_long)) f
+            ∙ sym (over rest rows (state_of words).accounts p (omega (arith, rows_long)) e)
+            ∙ v.to_come;
       }
 
-      pub passing_more : (next : List ℕ) → next ≡ put_account words p (passed (row_in words p) (account_in words p)) → Passing next (p + 1)
-      passing_more next e =
-          let a = passed (row_in words p) (account_in words p) in
-          let inside : p < room_of_words old = omega (arith, room.most) in
-          let put = moved_put old words _ v.moved room.long p inside a in
-          let account : account_at p (state_of words).accounts ≡ account_in words p = sym (moved_account old words _ v.moved room.long p inside) in
-          let turn = over_more p first (state_of words).accounts (row_in words p) (account_in words p) (omega (arith, first_long)) (first_row p h ∙ sym same_row) account in
-          rw e
-          (record {
-            least = omega (arith, v.least);
-            below = omega arith;
-            moved = moved_own old (put_account words p a) _ put;
-            left = v.left ∙ turn ∙ ap (passed_over (p + 1) first) (sym (ap (λ s. s.accounts) put.state));
-            later = λ q l. put_others words p a q (λ f. omega arith) ∙ v.later q (omega arith);
-          })
+      module _ (h : p < n) where
+        inside : p < room_of_words words
+        inside = omega (arith, room_stands, room.most)
 
-    pub passing_end : (words : List ℕ) (p : ℕ) → Passing words p → n ≤ p → state_of words ≡ with_accounts (state_of old) (passed_over from first (state_of old).accounts)
-    passing_end words p v h =
-        v.moved.state ∙ ap (with_accounts (state_of old)) (sym (v.left ∙ over_end p first (state_of words).accounts (omega (arith, first_long))))
+        row_stands : row_in words p ≡ row_in old p
+        row_stands =
+            sym (row_at (room_of_words words) words p inside)
+            ∙ ap (λ s. get_or s.table.requestors p no_requestor) v.state
+            ∙ row_at (room_of_words old) old p (omega (arith, room_stands))
 
--- ---- the search: no place so far was eligible, and each was passed over
+        the_row : requestor_at p rows ≡ row_in words p
+        the_row = get_or-take n (state_of old).table.requestors p no_requestor h ∙ row_at (room_of_words old) old p (omega (arith, room_stands)) ∙ sym row_stands
 
-module _ (old : List ℕ) (d n : ℕ) where
-  abbrev all : List Requestor
-  all = (state_of old).table.requestors
+        the_account : account_at p (state_of words).accounts ≡ account_in words p
+        the_account = account_at_lem (room_of_words words) words p inside
 
-  abbrev accounts₀ : List Account
-  accounts₀ = (state_of old).accounts
+        old_account : account_at p (state_of old).accounts ≡ account_in words p
+        old_account = account_at_lem (room_of_words old) old p (omega (arith, room_stands)) ∙ sym (v.left p (omega arith))
 
-  pub record Searching (words : List ℕ) (p : ℕ) : Type 0 where
-    pub below : p ≤ n
-    pub moved : Moved old words (state_of words).accounts
-    pub so_far : (state_of words).accounts ≡ after d Nobody (take p all) accounts₀
-    pub none : NoneBefore d all accounts₀ p
-    pub later : (q : ℕ) → p ≤ q → account_in words q ≡ account_in old q
+        walked_sum : (account_in words p).credit + (row_in words p).rate < 2 ^ 64
+        walked_sum = omega (arith, ap rate row_stands, ap credit (v.left p (omega arith)), room.sums p h)
 
-  module _ (room : Roomy old 0 n) where
-    all_long : length all ≡ room_of_words old
-    all_long = (words_shaped (room_of_words old) old).rows
+        walked_more : (behind : Turns) (next : Account)
+            → ((rs : List Requestor) (more : List Account) → rest (row_in words p ∷ rs) (account_in words p ∷ more) ≡ next ∷ behind rs more)
+            → Walked behind whole (put_account words p next) (p + 1)
+        walked_more behind next e =
+            let long : length words ≡ word_count (room_of_words words) = omega (arith, room.long, v.length_stands, room_stands) in
+            let same = same_room words (put_account words p next) (put_length words p next) in
+            let put : state_of (put_account words p next) ≡ with_accounts (state_of words) (set (state_of words).accounts p next) =
+            ap (λ k. words_state k (put_account words p next)) same ∙ put_account_lem words p next (room_of_words words) long inside in
+            let accounts : (state_of (put_account words p next)).accounts ≡ set (state_of words).accounts p next = ap (λ s. s.accounts) put in
+            record {
+              length_stands = put_length words p next ∙ v.length_stands;
+              state = put ∙ rw (v.state, accounts);
+              left = λ q l. put_others words p next q (λ f. omega arith) ∙ v.left q (omega arith);
+              to_come = rw accounts (turn rest behind rows (state_of words).accounts p next (omega (arith, rows_long))
+                  (omega (arith, (words_shaped (room_of_words words) words).accounts, inside)) (rw (the_row, the_account) e) ∙ v.to_come);
+            }
+
+  module _ (d : ℕ) where
+    abbrev after_slot : List Account
+    after_slot = slotted d rows (state_of old).accounts
+
+    -- no place before p is eligible, and each was passed over
+    pub record Searching (words : List ℕ) (p : ℕ) : Type 0 where
+      pub below : p ≤ n
+      pub walked : Walked (slotted d) after_slot words p
+      pub granted_is : granted_from d p rows (state_of old).accounts ≡ grant_among d n (state_of old)
+
+    -- the search is over, and the places before q had their turn
+    pub record Passing (granted : Option ℕ) (words : List ℕ) (q : ℕ) : Type 0 where
+      pub granted_is : granted ≡ grant_among d n (state_of old)
+      pub walked : Walked (after d None) after_slot words q
 
     pub searching_none : Searching old 0
-    searching_none = record {
-      below = omega arith;
-      moved = moved_none old;
-      so_far = after_none d Nobody all accounts₀;
-      none = λ i l. absurd (omega arith);
-      later = λ q l. refl;
-    }
+    searching_none = record { below = omega arith; walked = walked_none (slotted d); granted_is = from_none _ }
 
-    module _ (words : List ℕ) (p : ℕ) (v : Searching words p) (h : p < n) where
-      inside : p < room_of_words old
-      inside = omega (arith, room.most)
+    module _ (room : Roomy old n) where
+      module _ (words : List ℕ) (p : ℕ) (v : Searching words p) where
+        module _ (h : p < n) where
+          pub searching_sum : (account_in words p).credit + (row_in words p).rate < 2 ^ 64
+          searching_sum = walked_sum room (slotted d) after_slot words p v.walked h
 
-      row_stands : row_in words p ≡ row_in old p
-      row_stands = moved_row old words _ v.moved room.long p inside
+          accounts_long : p < length (state_of old).accounts
+          accounts_long = omega (arith, (words_shaped (room_of_words old) old).accounts, room.most)
 
-      pub searching_turn : Turn words p
-      searching_turn = record {
-        there = omega (arith, v.moved.length_stands, room.long, room.most);
-        sum = omega (arith, ap rate row_stands, ap credit (v.later p (omega arith)), room.sums p (omega arith) h);
-      }
+          test : (b : Bool) → eligible d (row_in words p) (account_in words p) ≡ b → eligible d (requestor_at p rows) (account_at p (state_of old).accounts) ≡ b
+          test b e = rw (the_row room (slotted d) after_slot words p v.walked h, old_account room (slotted d) after_slot words p v.walked h) e
 
-      the_row : requestor_at p all ≡ row_in words p
-      the_row = row_at (room_of_words old) old p inside ∙ sym row_stands
-
-      the_account : account_at p accounts₀ ≡ account_in words p
-      the_account = account_at_lem (room_of_words old) old p inside ∙ sym (v.later p (omega arith))
-
-      -- the account of place p is still the one of the state before the slot
-      so_far_account : account_in words p ≡ account_at p (state_of words).accounts
-      so_far_account = moved_account old words _ v.moved room.long p inside
-
-      test : (b : Bool) → eligible d (row_in words p) (account_in words p) ≡ b → eligible d (requestor_at p all) (account_at p accounts₀) ≡ b
-      test b e = rw (the_row, the_account) e
-
-      turn : (g : Grant) (a : Account) → (state_of words).accounts ≡ after d g (take p all) accounts₀ → a ≡ account_after d g p (row_in words p) (account_in words p)
-          → set (state_of words).accounts p a ≡ after d g (take (p + 1) all) accounts₀
-      turn g a e f = after_more d g p all accounts₀ (state_of words).accounts a (omega (arith, all_long, room.most)) e (f ∙ rw (the_row, ← so_far_account))
-
-      pub searching_more : (next : List ℕ) → eligible d (row_in words p) (account_in words p) ≡ false → next ≡ put_account words p (passed (row_in words p) (account_in words p)) → Searching next (p + 1)
-      unfolding account_after
-      searching_more next e f =
-          let a = passed (row_in words p) (account_in words p) in
-          let put = moved_put old words _ v.moved room.long p inside a in
-          rw f
-          (record {
+          pub searching_more : eligible d (row_in words p) (account_in words p) ≡ false
+              → Searching (put_account words p (passed (row_in words p) (account_in words p))) (p + 1)
+          searching_more e = record {
             below = omega arith;
-            moved = moved_own old (put_account words p a) _ put;
-            so_far = ap (λ s. s.accounts) put.state ∙ turn Nobody a v.so_far refl;
-            none = none_more d all accounts₀ p v.none (test false e);
-            later = λ q l. put_others words p a q (λ z. omega arith) ∙ v.later q (omega arith);
-          })
+            walked = walked_more room (slotted d) after_slot words p v.walked h (slotted d) _ (λ rs more. (head_passed d (row_in words p) rs (account_in words p) more e).slotted_is);
+            granted_is = granted_later d rows (state_of old).accounts p (omega (arith, rows_long room)) accounts_long (test false e) ∙ v.granted_is;
+          }
 
-      -- the place is eligible: it is served, and the rest passed over
-      module _ (e : eligible d (row_in words p) (account_in words p) ≡ true) where
-        abbrev paid : Account
-        paid = served d (row_in words p) (account_in words p)
+          pub served_passing : eligible d (row_in words p) (account_in words p) ≡ true
+              → Passing (Some p) (put_account words p (served d (row_in words p) (account_in words p))) (p + 1)
+          served_passing e = record {
+            granted_is = granted_here d rows (state_of old).accounts p (omega (arith, rows_long room)) accounts_long (test true e) ∙ v.granted_is;
+            walked = walked_more room (slotted d) after_slot words p v.walked h (after d None) _ (λ rs more. (head_granted d (row_in words p) rs (account_in words p) more e).slotted_is);
+          }
 
-        abbrev served_words : List ℕ
-        served_words = put_account words p paid
+        pub idle_passing : n ≤ p → Passing None words (p + 1)
+        idle_passing h = record {
+          granted_is = granted_none d rows (state_of old).accounts p (omega (arith, rows_long room)) ∙ v.granted_is;
+          walked = walked_over room (slotted d) after_slot words p v.walked h (slotted_no_place d) (after d None) (after_no_place d);
+        }
 
-        put_paid : Moved old served_words (set (state_of words).accounts p paid)
-        put_paid = moved_put old words _ v.moved room.long p inside paid
+      module _ (granted : Option ℕ) (words : List ℕ) (q : ℕ) (v : Passing granted words q) where
+        pub passing_sum : q < n → (account_in words q).credit + (row_in words q).rate < 2 ^ 64
+        passing_sum h = walked_sum room (after d None) after_slot words q v.walked h
 
-        pub found_room : (next : List ℕ) → next ≡ served_words → Roomy next (p + 1) n
-        found_room next f = rw f
-            (record {
-              long = words_long old served_words _ put_paid room.long;
-              most = omega (arith, room.most, same_room old served_words put_paid.length_stands);
-              sums = λ q l m.
-                  let there : q < room_of_words old = omega (arith, room.most) in
-                  let row = ap rate (moved_row old served_words _ put_paid room.long q there) in
-                  let account = ap credit (put_others words p paid q (λ z. omega arith) ∙ v.later q (omega arith)) in
-                  omega (arith, row, account, room.sums q (omega arith) m);
-            })
+        pub passing_more : q < n → Passing granted (put_account words q (passed (row_in words q) (account_in words q))) (q + 1)
+        unfolding after
+        passing_more h = record {
+          granted_is = v.granted_is;
+          walked = walked_more room (after d None) after_slot words q v.walked h (after d None) _ (λ rs more. refl);
+        }
 
-        pub found_grant : Place p ≡ grant_among d n (state_of old)
-        found_grant = sym (first_at d n p all accounts₀ h (omega (arith, all_long, room.most)) v.none (test true e))
+        pub passing_end : n ≤ q → state_of words ≡ slot_among d n granted (state_of old)
+        unfolding slotted
+        passing_end h = rw v.granted_is (walked_end room (after d None) after_slot words q v.walked h (after_no_place d))
 
-        pub found_state : (next end : List ℕ) → next ≡ served_words
-            → state_of end ≡ with_accounts (state_of next) (passed_over (p + 1) (take n (state_of next).table.requestors) (state_of next).accounts)
-            → state_of end ≡ slot_among d n (Place p) (state_of old)
-        unfolding account_after
-        found_state next end f g =
-            let rs = take n all in
-            let long : length rs ≡ n = length-take-le n all (omega (arith, all_long, room.most)) in
-            let paid-so : paid ≡ account_after d (Place p) p (row_in words p) (account_in words p) = rw (eq-eqb p p refl) in
-            let here : set (state_of words).accounts p paid ≡ after d (Place p) (take (p + 1) rs) accounts₀ =
-            turn (Place p) paid (v.so_far ∙ ahead_passed d p all accounts₀) paid-so ∙ ap (λ l. after d (Place p) l accounts₀) (sym (take-take (p + 1) n all (omega arith))) in
-            let state : state_of next ≡ with_accounts (state_of old) (after d (Place p) (take (p + 1) rs) accounts₀) =
-            ap state_of f ∙ put_paid.state ∙ ap (with_accounts (state_of old)) here in
-            g ∙ rw state (ap (with_accounts (state_of old)) (rest_passed d p rs accounts₀ (omega arith)))
-
-    module _ (words : List ℕ) (p : ℕ) (v : Searching words p) (h : n ≤ p) where
-      all_n : p ≡ n
-      all_n = omega (arith, v.below)
-
-      pub nobody_grant : Nobody ≡ grant_among d n (state_of old)
-      nobody_grant = sym (first_none d n all accounts₀ (rw all_n at v.none))
-
-      pub nobody_state : state_of words ≡ slot_among d n Nobody (state_of old)
-      nobody_state = v.moved.state ∙ ap (with_accounts (state_of old)) (v.so_far ∙ ap (λ k. after d Nobody (take k all) accounts₀) all_n)
+-- what the proof of a walk takes at its calls and at the end
+pub ruleset steps = (searching_none, searching_sum, passing_sum, passing_more, passing_end)

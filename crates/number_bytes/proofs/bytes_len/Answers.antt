@@ -1,13 +1,15 @@
-use Rattle.std.proofs.Common.{arith}
-use Rattle.number_bytes.proofs.Counts.{counted_none, counted_next, counted_few}
+-- The sum is what all numbers take, and it is small.
+use Rattle.std.proofs.Common.{◌≡◌, ◌∙◌, ◌<◌, ◌^◌, arith, rules}
+use Rattle.std.specs.List.{sum_by}
+use Rattle.number_bytes.proofs.Counts.{bytes_of, bytes_sum, bytes_few}
 use Rattle.number_bytes.proofs.bytes_len.Goals as goal
 
-pub loop-i-init : goal.loop-i-init
-loop-i-init c = counted_none _
+pub sum-requires-clause-fits : goal.sum-requires-clause-fits
+sum-requires-clause-fits c =
+    let few : sum_by bytes_of c.args.numbers.now < 2 ^ 64 = omega (arith, bytes_few c.args.numbers.now, c.requires) in
+    search rules
 
-pub overflow_add-k : goal.overflow_add-k
-overflow_add-k c = omega (arith, counted_few ((counted_next c.loop-i.invariant c.loop-i-test.true _ c.number_len-k.ensures)))
-
--- the next turn, which also bounds the sum
-pub loop-i-preserved : goal.loop-i-preserved
-loop-i-preserved c = counted_next c.loop-i.invariant c.loop-i-test.true _ c.number_len-k.ensures
+pub returns : goal.returns
+returns c =
+    let all : c.sum.result ≡ sum_by bytes_of c.args.numbers.now = search rules in
+    all ∙ bytes_sum c.args.numbers.now

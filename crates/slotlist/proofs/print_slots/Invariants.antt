@@ -4,7 +4,7 @@ use Rattle.std.proofs.Common.{◌≡◌, ◌+◌, ◌*◌, ◌≤◌, min, lengt
 use Rattle.slotlist.proofs.print_slots.Given as goal
 
 abbrev pub invariant-loop-wrote : goal.invariant-loop-wrote
-invariant-loop-wrote g l = (length l.page ≡ length l.initial.page) × (l.at ≤ length l.page)
+invariant-loop-wrote g l = (length l.page ≡ length l.initial.page) × (l.used ≤ length l.page)
 
 abbrev pub decreases-loop-wrote : goal.decreases-loop-wrote
-decreases-loop-wrote g l = 2 * length l.left + min l.at 1
+decreases-loop-wrote g l = 2 * length l.rest + min l.used 1

@@ -1,5 +1,4 @@
--- `admission::figures::finish_is_within` meets its contract. Every product is far inside 64 bits, and the figure is the least number of
--- slots that covers the sum. Assumes nothing.
+-- `admission::figures::finish_is_within` meets its contract. The figure is the least number of slots that covers the sum. Assumes nothing.
 use Rattle.std.proofs.Common.{sym}
 use Rattle.terms.proofs.Figures.{finish_within}
 use Rattle.admission.proofs.figures.finish_is_within.Goals as goal

@@ -1,18 +1,11 @@
-use Rattle.std.proofs.Common.{refl, ◌+◌, ◌≤◌, arith, length}
+use Rattle.std.proofs.Common.{refl, arith}
 use Rattle.terms.specs.Table.{burst}
-use Rattle.layout.specs.Words.{word_count}
-use Rattle.admission.proofs.Walks.{summed_none, summed_more, summed_at_most}
+use Rattle.admission.proofs.Rows.{sum_next}
+use Rattle.admission.proofs.Walks.{summed_at_most}
 use Rattle.admission.proofs.sums.bursts_above.Goals as goal
 
-pub loop-q-init : goal.loop-q-init
-loop-q-init c = (omega arith, summed_none burst c.args.words.now)
-
 pub overflow_add-bursts : goal.overflow_add-bursts
-overflow_add-bursts c =
-    let there : word_count (c.loop-q.q + 1) ≤ length c.args.words.now = omega (arith, c.requires.0, c.loop-q-test.true) in
-    omega (arith, summed_at_most burst refl _ _ _ c.loop-q.invariant.1 (there) _ c.loop-q-test.true, c.burst-bursts.ensures, c.requires.1)
+overflow_add-bursts c = omega (arith, summed_at_most burst refl _ _ _ c.loop-q.invariant (omega arith) c.args.p (omega arith))
 
 pub loop-q-preserved : goal.loop-q-preserved
-loop-q-preserved c =
-    let there : word_count (c.loop-q.q + 1) ≤ length c.args.words.now = omega (arith, c.requires.0, c.loop-q-test.true) in
-    (omega (arith, c.loop-q-test.true), rw c.burst-bursts.ensures (summed_more burst refl _ _ _ c.loop-q.invariant.1 (there)))
+loop-q-preserved c = omega (arith, sum_next c.args.words.now burst refl c.loop-q.q (omega arith))

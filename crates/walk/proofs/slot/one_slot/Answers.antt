@@ -1,55 +1,35 @@
-use Rattle.std.proofs.Common.{sym, ap, ◌∙◌, arith}
+-- `walk::slot::one_slot` meets its contract, with the laws of proofs/Walked: a place that is not eligible is passed over, and the search
+-- ends at one that is served, or behind the last. Assumes nothing.
+use Rattle.std.proofs.Common.{◌≡◌, true, false, sym, ap, ◌∙◌, arith}
 use Rattle.terms.specs.State.{backlog}
-use Rattle.layout.specs.Words.{row_in, account_in}
+use Rattle.rule.specs.Rule.{eligible}
 use Rattle.rule.proofs.Accounts.{eligible_idle}
-use Rattle.walk.proofs.Walked.{searching_none, searching_turn, searching_more, found_room, found_grant, found_state, nobody_grant}
+use Rattle.layout.specs.Words.{row_in, account_in}
+use Rattle.walk.proofs.Walked.{searching_more, served_passing, idle_passing}
 use Rattle.walk.proofs.slot.one_slot.Goals as goal
-use Rattle.walk.proofs.slot.one_slot.Goals.{then-q-eq0, else-q-eq0+else-is_eligible_at}
-
-pub loop-p-init : goal.loop-p-init
-loop-p-init c =
-    let a = c.args in searching_none a.words.now a.d a.n c.requires
-
-pub pass_at-requires : goal.pass_at-requires
-pass_at-requires c =
-    let a = c.args in let l = c.loop-p in searching_turn a.words.now a.d a.n c.requires l.words l.p l.invariant c.if-n-p.false
-
-pub is_eligible_at-requires : goal.is_eligible_at-requires
-is_eligible_at-requires c =
-    let a = c.args in let l = c.loop-p in searching_turn a.words.now a.d a.n c.requires l.words l.p l.invariant c.if-n-p.false
-
-pub serve_at-requires : goal.serve_at-requires
-serve_at-requires c =
-    let a = c.args in let l = c.loop-p in (searching_turn a.words.now a.d a.n c.requires l.words l.p l.invariant c.if-n-p.false, sym c.is_eligible_at.ensures ∙ c.if-is_eligible_at.true)
-
-pub pass_from-requires : goal.pass_from-requires
-pass_from-requires c =
-    let a = c.args in let l = c.loop-p in (omega (arith, c.if-n-p.false), found_room a.words.now a.d a.n c.requires l.words l.p l.invariant c.if-n-p.false (sym c.is_eligible_at.ensures ∙ c.if-is_eligible_at.true) _ c.serve_at.ensures)
-
-pub keep_at-requires : goal.keep_at-requires
-keep_at-requires c =
-    let a = c.args in let l = c.loop-p in (searching_turn a.words.now a.d a.n c.requires l.words l.p l.invariant c.if-n-p.false, omega (arith, c.if-q-eq0.false, ap backlog c.account-a.ensures))
+use Rattle.walk.proofs.slot.one_slot.Goals.{then-n-p, else-n-p+else-a-eq0+then-is_eligible, then-a-eq0, else-a-eq0+else-is_eligible}
 
 pub loop-p-preserved : goal.loop-p-preserved
 loop-p-preserved c =
     let a = c.args in let l = c.loop-p in
-    elim c.if-q-eq0.branch [
-      | then-q-eq0 w ↦ rw w.words-is (searching_more a.words.now a.d a.n c.requires l.words l.p l.invariant c.if-n-p.false _ (eligible_idle (row_in l.words l.p) (account_in l.words l.p) a.d (omega (arith, w.if-q-eq0.true, ap backlog c.account-a.ensures))) w.pass_at.ensures)
-      | else-q-eq0+else-is_eligible_at w ↦ rw w.words-is (searching_more a.words.now a.d a.n c.requires l.words l.p l.invariant c.if-n-p.false _ (sym w.is_eligible_at.ensures ∙ w.if-is_eligible_at.false) w.keep_at.ensures)
+    elim c.if-a-eq0.branch [
+      | then-a-eq0 w ↦
+          rw (w.words-is, w.put_account.ensures, w.pass.ensures, c.requestor-r.ensures, c.account-a.ensures)
+          (searching_more a.words.now a.n a.d c.requires l.words l.p l.invariant c.if-n-p.false
+          (eligible_idle (row_in l.words l.p) (account_in l.words l.p) a.d (omega (arith, w.if-a-eq0.true, ap backlog c.account-a.ensures))))
+      | else-a-eq0+else-is_eligible w ↦
+          let e : eligible a.d (row_in l.words l.p) (account_in l.words l.p) ≡ false = rw (← c.requestor-r.ensures, ← c.account-a.ensures) (sym w.is_eligible.ensures ∙ w.if-is_eligible.false) in
+          rw (w.words-is, w.put_account-else-is_eligible.ensures, w.pass-else-is_eligible.ensures, c.requestor-r.ensures, c.account-a.ensures)
+          (searching_more a.words.now a.n a.d c.requires l.words l.p l.invariant c.if-n-p.false e)
     ]
 
-pub returns-then-n-p-clause-grant : goal.returns-then-n-p-clause-grant
-returns-then-n-p-clause-grant c =
-    let a = c.args in let l = c.loop-p in nobody_grant a.words.now a.d a.n c.requires l.words l.p l.invariant c.if-n-p.true
-
-pub returns-then-is_eligible_at-clause-grant : goal.returns-then-is_eligible_at-clause-grant
-returns-then-is_eligible_at-clause-grant c =
+pub loop-q-init : goal.loop-q-init
+loop-q-init c =
     let a = c.args in let l = c.loop-p in
-    let e = sym c.is_eligible_at.ensures ∙ c.if-is_eligible_at.true in
-    found_grant a.words.now a.d a.n c.requires l.words l.p l.invariant c.if-n-p.false e
-
-pub returns-then-is_eligible_at-clause-state : goal.returns-then-is_eligible_at-clause-state
-returns-then-is_eligible_at-clause-state c =
-    let a = c.args in let l = c.loop-p in
-    let e = sym c.is_eligible_at.ensures ∙ c.if-is_eligible_at.true in
-    found_state a.words.now a.d a.n c.requires l.words l.p l.invariant c.if-n-p.false e _ _ c.serve_at.ensures c.pass_from.ensures
+    elim c.if-n-p.branch [
+      | then-n-p w ↦ rw (w.words-is, w.granted-is) (idle_passing a.words.now a.n a.d c.requires l.words l.p l.invariant w.if-n-p.true)
+      | else-n-p+else-a-eq0+then-is_eligible w ↦
+          let e : eligible a.d (row_in l.words l.p) (account_in l.words l.p) ≡ true = rw (← w.requestor-r.ensures, ← w.account-a.ensures) (sym w.is_eligible.ensures ∙ w.if-is_eligible.true) in
+          rw (w.words-is, w.granted-is, w.put_account-then-is_eligible.ensures, w.serve.ensures, w.requestor-r.ensures, w.account-a.ensures)
+          (served_passing a.words.now a.n a.d c.requires l.words l.p l.invariant w.if-n-p.false e)
+    ]

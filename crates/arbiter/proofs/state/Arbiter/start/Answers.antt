@@ -6,12 +6,8 @@ use Rattle.layout.specs.Words.{word_count}
 use Rattle.arbiter.proofs.ByValue.{room_full, right_full}
 use Rattle.arbiter.proofs.state.Arbiter.start.Goals as goal
 
-pub start_right-answer-requires : goal.start_right-answer-requires
-start_right-answer-requires c =
-    let long : length c.lay_table-words.result ≡ word_count max_places = search rules in
-    right_full c.lay_table-words.result long
-
 pub returns : goal.returns
 returns c =
-    let long : length c.lay_table-words.result ≡ word_count max_places = search rules in
-    c.start_right-answer.ensures ∙ ap₂ (λ k t. start k t c.args.first.0) (room_full c.lay_table-words.result long) (ap (λ s. s.table) c.lay_table-words.ensures)
+    let words = c.lay_table-words.result in
+    let long : length words ≡ word_count max_places = search rules in
+    c.start_laid-answer.ensures.begun (right_full words long) ∙ ap₂ (λ k t. start k t c.args.first.0) (room_full words long) (ap (λ s. s.table) c.lay_table-words.ensures)

@@ -1,9 +1,0 @@
--- `bench_parts::values::one_place` meets its contract. One row is stored. Assumes nothing.
-use Rattle.std.proofs.Common.{ap, set}
-use Rattle.lists.specs.Overwriting.{written_over}
-use Rattle.terms.specs.Table.{Table, table_of}
-use Rattle.bench_parts.proofs.values.one_place.Goals as goal
-
-pub returns : goal.returns
-unfolding table_of written_over
-returns c = ap {A = Table} {B = Table} (λ t. record { denominator = t.denominator; count = t.count; requestors = set t.requestors 0 c.args.r }) c.bare_table-t.ensures

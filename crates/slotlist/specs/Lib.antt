@@ -1,2 +1,0 @@
--- What the program's own functions promise each other.
-pub mod Input
