@@ -2,8 +2,11 @@
 // Words have room for 1 place to the largest N, and every check holds for the room that they have.
 #![tactic(auto)]
 
+pub mod checked;
 pub mod checks;
+pub mod counted;
 pub mod figures;
 pub mod finishes;
 pub mod needs;
+pub mod parts;
 pub mod sums;

@@ -2,7 +2,6 @@
 ghost use Rattle.std.specs.Prelude.{◌≡◌};
 ghost use Rattle.terms.specs.Refusals.{verdict_of};
 ghost use Rattle.terms.specs.Table.{fields_verdict, offered_row_verdict};
-ghost use Rattle.terms.specs.State.{is_faultless};
 
 use crate::bounds::{burst_bounds, need_bounds, rate_bounds, within_bounds};
 use admission::needs::check_need_fits;
@@ -18,17 +17,6 @@ pub fn check_fields(d: u64, p: usize, r: Requestor) -> Result<(), Cause>
     burst_bounds(d, p).hold(r.burst)?;
     need_bounds(p).hold(r.need.0)?;
     within_bounds(p).hold(r.within.0)
-}
-
-// Whether it has none. Test 23 asks for no more than this, of every row on every call, and is faster by half with a bool.
-#[tactic(auto, using(terms::proofs::AsTests::row_test, terms::proofs::AsTests::admitted))]
-pub fn fields_hold(d: u64, p: usize, r: Requestor) -> bool
-    ensures { result ≡ is_faultless (fields_verdict d p r) }
-{
-    rate_bounds(d, p).admits(r.rate)
-        && burst_bounds(d, p).admits(r.burst)
-        && need_bounds(p).admits(r.need.0)
-        && within_bounds(p).admits(r.within.0)
 }
 
 // The first fault of the requestor at place p among 3, 4, 5 and 17.

@@ -9,17 +9,17 @@ ghost use Rattle.admission.specs.Checked.{table_in};
 
 use crate::admit::{admit, check_length};
 use crate::state::Arbiter;
+use layout::lent::Words;
 use opening::{open, turn_down};
 use terms::refusals::{Cause, InputRefusal};
 use terms::units::Slots;
 
 // Admission, and then 12.
 #[tactic(auto, unfolding(terms::specs::Start::start_verdict, terms::specs::Refusals::gate, terms::specs::Refusals::then))]
-fn check_start(words: &[u64], first: Slots) -> Result<(), Cause>
-    requires { right_length max_places words.now ≡ true }
+fn check_start(words: &Words, first: Slots) -> Result<(), Cause>
     ensures { verdict_of result ≡ start_verdict (room_of_words words.now) (table_in words.now) first.0 }
 {
-    admit(words)?;
+    admit(words.slice())?;
     if Arbiter::MAX_SLOT < first.0 {
         return Err(InputRefusal::FirstSlot.into());
     }
@@ -33,7 +33,7 @@ pub fn start_laid(words: &mut [u64], first: Slots) -> Result<(), Cause>
     ensures wrong { right_length max_places words.old ≡ false → (words.new ≡ words.old) × (answer_of result ≡ refused (refusal 23)) }
 {
     check_length(words)?;
-    if let Err(why) = check_start(words, first) {
+    if let Err(why) = check_start(&Words::of(words), first) {
         return turn_down(words, why);
     }
     open(words, first);

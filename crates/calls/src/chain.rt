@@ -6,6 +6,7 @@ ghost use Rattle.arbiter.specs.ByValue.{held};
 
 use arbiter::state::Arbiter;
 use chains::chain::chain_words;
+use layout::lent::Words;
 use terms::refusals::Cause;
 use terms::units::Slots;
 
@@ -15,5 +16,5 @@ use terms::units::Slots;
 pub fn chain(s: Arbiter, place: usize, names: &[u8]) -> Result<Slots, Cause>
     ensures { chain_answer_of result ≡ chain max_places (held s) place names.now }
 {
-    chain_words(&s.words, place, names)
+    chain_words(&Words::of(&s.words), place, names)
 }

@@ -5,6 +5,7 @@ ghost use Rattle.terms.specs.Queries.{figures, figures_answer_of};
 ghost use Rattle.arbiter.specs.ByValue.{held};
 
 use arbiter::state::Arbiter;
+use layout::lent::Words;
 use queries::figures::figures_words;
 use terms::answers::PlaceFigures;
 use terms::refusals::Cause;
@@ -15,5 +16,5 @@ use terms::units::Transfers;
 pub fn figures(s: Arbiter, place: usize, j: Transfers) -> Result<PlaceFigures, Cause>
     ensures { figures_answer_of result ≡ figures max_places (held s) place j.0 }
 {
-    figures_words(&s.words, place, j)
+    figures_words(&Words::of(&s.words), place, j)
 }

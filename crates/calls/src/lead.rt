@@ -5,6 +5,7 @@ ghost use Rattle.arbiter.specs.ByValue.{held};
 ghost use Rattle.lead_parts.specs.Lead.{lead_query, lead_answer_of};
 
 use arbiter::state::Arbiter;
+use layout::lent::Words;
 use queries::lead::lead_words;
 use terms::refusals::Cause;
 
@@ -13,5 +14,5 @@ use terms::refusals::Cause;
 pub fn lead(s: Arbiter, place: usize, log: &[u8]) -> Result<i64, Cause>
     ensures { lead_answer_of result ≡ lead_query max_places (held s) place log.now }
 {
-    lead_words(&s.words, place, log)
+    lead_words(&Words::of(&s.words), place, log)
 }

@@ -5,6 +5,7 @@ ghost use Rattle.arbiter.specs.ByValue.{held};
 ghost use Rattle.queries.specs.Look.{account_query, standing, account_answer_of, standing_answer_of};
 
 use arbiter::state::Arbiter;
+use layout::lent::Words;
 use queries::look::{account_words, standing_words};
 use terms::answers::Standing;
 use terms::place::Account;
@@ -15,7 +16,7 @@ use terms::refusals::Cause;
 pub fn account(s: Arbiter, place: usize) -> Result<Account, Cause>
     ensures { account_answer_of result ≡ account_query max_places (held s) place }
 {
-    account_words(&s.words, place)
+    account_words(&Words::of(&s.words), place)
 }
 
 // Refused: 23 (clause 13.13).
@@ -23,5 +24,5 @@ pub fn account(s: Arbiter, place: usize) -> Result<Account, Cause>
 pub fn standing(s: Arbiter) -> Result<Standing, Cause>
     ensures { standing_answer_of result ≡ standing max_places (held s) }
 {
-    standing_words(&s.words)
+    standing_words(&Words::of(&s.words))
 }

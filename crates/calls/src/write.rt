@@ -5,6 +5,7 @@ ghost use Rattle.arbiter.specs.ByValue.{given};
 ghost use Rattle.table_bytes.specs.Writing.{write_table, write_answer_of};
 
 use arbiter::table::{Table, lay_table};
+use layout::lent::Words;
 use queries::write::admit_and_write;
 use terms::refusals::Cause;
 
@@ -14,5 +15,5 @@ use terms::refusals::Cause;
 pub fn write_table(t: Table, buffer: &mut [u8]) -> Result<usize, Cause>
     ensures { record { answer = write_answer_of result; buffer = buffer.new } ≡ write_table max_places (given t) buffer.old }
 {
-    admit_and_write(&lay_table(t), buffer)
+    admit_and_write(&Words::of(&lay_table(t)), buffer)
 }

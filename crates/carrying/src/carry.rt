@@ -5,7 +5,7 @@ ghost use Rattle.terms.specs.Answers.{answer_of};
 ghost use Rattle.terms.specs.State.{sound};
 ghost use Rattle.terms.specs.Longer.{longer};
 ghost use Rattle.carrying.specs.Carry.{as_state, carry};
-ghost use Rattle.layout.specs.Words.{room_of_words, right_length, state_of};
+ghost use Rattle.layout.specs.Words.{room_of_words, state_of};
 ghost use Rattle.carrying.specs.OldWords.{old_room_of, old_state_of};
 ghost use Rattle.carrying.specs.Fits.{fits_into};
 
@@ -15,6 +15,7 @@ use crate::old_words::{
 };
 use arbiter::state::Arbiter;
 use layout::laying::lay_head;
+use layout::lent::Words;
 use layout::words::{count, length_is_right, put_account, put_row, put_slot_number, room_of};
 use opening::turn_down;
 use soundness::soundness::is_sound;
@@ -47,11 +48,10 @@ fn lay_old(old: &[u64], words: &mut [u64])
 
 // Test 23 with a limit below the room. Past the limit the words are 0, and N may not count them in, whatever a place of zeros is held to be.
 #[tactic(auto, using(admission::proofs::Rows::head_there, admission::proofs::Rows::count_word))]
-fn is_sound_within(words: &[u64], limit: usize) -> bool
-    requires { right_length max_places words.now ≡ true }
+fn is_sound_within(words: &Words, limit: usize) -> bool
     ensures { result ≡ (leb (state_of words.now).table.count limit && sound (room_of_words words.now) (state_of words.now)) }
 {
-    count(words) <= limit && is_sound(words)
+    count(words.slice()) <= limit && is_sound(words)
 }
 
 // What the words held before does not matter. Refused: 23.
@@ -61,7 +61,7 @@ pub fn carry_words(old: &[u64], words: &mut [u64]) -> Result<(), Cause>
     ensures { record { state = state_of words.new; answer = answer_of result } ≡ carry (old_room_of old.now) (room_of_words words.old) (old_state_of old.now) }
 {
     lay_old(old, words);
-    if !is_sound_within(words, old_room_of(old)) {
+    if !is_sound_within(&Words::of(words), old_room_of(old)) {
         return turn_down(words, StateRefusal::Unsound.into());
     }
     Ok(())

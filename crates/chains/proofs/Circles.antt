@@ -34,8 +34,7 @@ module _ (names : List ℕ) where
       go : (w : Option ℕ) → steps names k o ≡ w → steps names k o ≡ Some (at (steps names k o))
       go None r =
           let z : k + (m - k) ≡ m = omega arith in
-          let over : ◌≡◌ {A = ℕ} 0 1 = cc (steps_add k (m - k) o, ap (λ x. steps names x o) z, ap (steps names (m - k)) r, steps_none (m - k)) in
-          absurd (omega arith)
+          absurd (cc (steps_add k (m - k) o, ap (λ x. steps names x o) z, ap (steps names (m - k)) r, steps_none (m - k)))
       go (Some x) r = rw r
 
   -- ---- the chain and the steps
@@ -55,7 +54,7 @@ module _ (names : List ℕ) where
   pub not_met : (p most k : ℕ) (o : Option ℕ) → every (is_other p) (chain_to names most o) ≡ true → k < most → steps names k o ≡ Some p → ⊥
   unfolding chain_to steps every
   not_met p zero k o e h s = not-suc-le-zero h
-  not_met p (suc most) k None e h s = let over : ◌≡◌ {A = ℕ} 0 1 = cc (steps_none k) in omega arith
+  not_met p (suc most) k None e h s = cc (steps_none k)
   not_met p (suc most) zero (Some q) e h s =
       let same : q ≡ p = cc in
       let fails : is_other p q ≡ false = rw (eq-eqb q p same) in
@@ -68,7 +67,7 @@ module _ (names : List ℕ) where
   pub chain_whole : (m most : ℕ) (o : Option ℕ) → m ≤ most → steps names m o ≡ None → chain_to names most o ≡ chain_to names m o
   unfolding chain_to steps
   chain_whole zero most None h e = chain_none names most ∙ sym (chain_none names 0)
-  chain_whole zero most (Some p) h e = let over : ◌≡◌ {A = ℕ} 0 1 = cc in absurd (omega arith)
+  chain_whole zero most (Some p) h e = absurd cc
   chain_whole (suc m) most None h e = chain_none names most ∙ sym (chain_none names (suc m))
   chain_whole (suc m) zero (Some p) h e = absurd (not-suc-le-zero h)
   chain_whole (suc m) (suc most) (Some p) h e = ap (λ links. links ++ (p ∷ [])) (chain_whole m most (follows names p) (omega arith) e)

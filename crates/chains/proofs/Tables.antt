@@ -7,23 +7,18 @@ use Rattle.terms.specs.State.{place_verdict}
 use Rattle.terms.specs.Chain.{follows, present, chain_to, name_verdict, circle_verdict, names_verdict, circles_verdict, following_verdict}
 use Rattle.terms.proofs.Checks.{gate_passed, then_open, fair}
 use Rattle.terms.proofs.Sound.{place_open, places_length}
-use Rattle.layout.specs.Words.{room_of_words, right_length, state_of}
+use Rattle.layout.specs.Words.{room_of_words, state_of}
 use Rattle.admission.specs.Checked.{table_in, Checked}
 use Rattle.admission.proofs.Rows.{rows_length}
 use Rattle.admission.proofs.Walks.{Walked, walk_pass, walk_break, walk_end}
-use Rattle.soundness.proofs.Places.{sound_checked}
 
 -- as many requestors as places
 pub places_there : (most : ℕ) (words : List ℕ) → Checked most words → length (requestors_of (table_in words)) ≡ (table_in words).count
 places_there most words k = places_length (room_of_words words) (table_in words) (rows_length words) (fair (room_of_words words) (table_in words) k.passes)
 
 -- a place that 23 and 11 let pass, and names that 11 lets pass
-module _ (most : ℕ) (words : List ℕ) (p : ℕ) (e : faultless ≡ place_verdict (room_of_words words) (state_of words) p) where
-  pub place_checked : right_length most words ≡ true → Checked most words
-  place_checked ok = sound_checked most words ok (place_open _ _ _ (sym e)).0
-
-  pub place_below : p < (table_in words).count
-  place_below = (place_open _ _ _ (sym e)).1
+pub place_below : (words : List ℕ) (p : ℕ) → faultless ≡ place_verdict (room_of_words words) (state_of words) p → p < (table_in words).count
+place_below words p e = (place_open _ _ _ (sym e)).1
 
 pub names_passed : (t : Table) (names : List ℕ) → faultless ≡ following_verdict t names → names_verdict t names ≡ faultless
 unfolding following_verdict

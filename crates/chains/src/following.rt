@@ -1,11 +1,11 @@
 // Who follows whom, as it comes with a call: a name for each place, which is a byte, and the checks of the names over the whole table.
 ghost use Rattle.std.specs.Prelude.{◌≡◌, not, eqb};
 ghost use Rattle.lists.specs.Sums.{every};
-ghost use Rattle.terms.specs.Limits.{max_places};
 ghost use Rattle.terms.specs.Refusals.{verdict_of};
 ghost use Rattle.terms.specs.Chain.{follows, present, chain_to, names_verdict, circles_verdict, following_verdict};
-ghost use Rattle.admission.specs.Checked.{table_in, Checked};
+ghost use Rattle.admission.specs.Checked.{table_in};
 
+use admission::checked::CheckedWords;
 use layout::words::count;
 use terms::refusals::{Cause, InputRefusal};
 
@@ -35,11 +35,10 @@ fn is_present(n: usize, followed: Option<usize>) -> bool
 
 // Clause 12.11 of the names: each place that is followed is one of the table's.
 #[tactic(auto, using(admission::proofs::Rows::head_there, admission::proofs::Rows::count_word, crate::proofs::Tables::names_pass, crate::proofs::Tables::names_stop, crate::proofs::Tables::names_end))]
-fn check_names(words: &[u64], names: &[u8]) -> Result<(), Cause>
-    requires { Checked max_places words.now }
+fn check_names(words: &CheckedWords, names: &[u8]) -> Result<(), Cause>
     ensures { verdict_of result ≡ names_verdict (table_in words.now) names.now }
 {
-    let n = count(words);
+    let n = count(words.slice());
     for p in 0..n {
         if !is_present(n, follows(names, p)) {
             return Err(InputRefusal::NoSuchPlace.into());
@@ -71,11 +70,10 @@ fn stays_clear(names: &[u8], n: usize, p: usize) -> bool
 
 // Clause 12.16: the lowest place from which following leads back to it.
 #[tactic(auto, using(admission::proofs::Rows::head_there, admission::proofs::Rows::count_word, crate::proofs::Tables::circles_pass, crate::proofs::Tables::circles_stop, crate::proofs::Tables::circles_end))]
-fn check_circles(words: &[u64], names: &[u8]) -> Result<(), Cause>
-    requires { Checked max_places words.now }
+fn check_circles(words: &CheckedWords, names: &[u8]) -> Result<(), Cause>
     ensures { verdict_of result ≡ circles_verdict (table_in words.now) names.now }
 {
-    let n = count(words);
+    let n = count(words.slice());
     for p in 0..n {
         if !stays_clear(names, n, p) {
             return Err(InputRefusal::Circle(p).into());
@@ -86,8 +84,7 @@ fn check_circles(words: &[u64], names: &[u8]) -> Result<(), Cause>
 
 // 11, then 16. Nobody is followed before every place that is named is known to be there, so that no name past the table's places is read.
 #[tactic(auto, unfolding(terms::specs::Chain::following_verdict, terms::specs::Refusals::then))]
-pub(crate) fn check_following(words: &[u64], names: &[u8]) -> Result<(), Cause>
-    requires { Checked max_places words.now }
+pub(crate) fn check_following(words: &CheckedWords, names: &[u8]) -> Result<(), Cause>
     ensures { verdict_of result ≡ following_verdict (table_in words.now) names.now }
 {
     check_names(words, names)?;

@@ -12,17 +12,6 @@ unfoldable pub room_of_words : ℕ → ℕ
 room_of_words zero = 128
 room_of_words (suc left) = 128 * room_of_words left
 
--- a group that is not the last
-more_groups : (left x : ℕ) → 128 ≤ x → groups_of (suc left) x ≡ (x % 128 + 128) ∷ groups_of left (x / 128)
-unfolding groups_of
-more_groups left x h = rw (le-ltb x 128 h)
-
--- the last group
-one_group : (left x : ℕ) → x < 128 → groups_of left x ≡ x ∷ []
-unfolding groups_of
-one_group zero x h = refl
-one_group (suc left) x h = rw (lt-ltb x 128 h)
-
 -- at least one group, and at most as many more as may come
 groups_few : (left x : ℕ) → (1 ≤ length (groups_of left x)) × (length (groups_of left x) ≤ suc left)
 unfolding groups_of

@@ -4,7 +4,7 @@ ghost use Rattle.std.specs.Prelude.{◌≡◌};
 ghost use Rattle.terms.specs.Limits.{max_places};
 ghost use Rattle.justrave.specs.Exported.{figured, chained, led, wrote, account_exported, standing_exported};
 
-use crate::lent::{lengths_hold, put_two};
+use crate::lent::{lent, put_two};
 use chains::chain::chain_words;
 use layout::words::room_of;
 use outcomes::codes::{WRONG_LENGTH, refusal_code};
@@ -21,10 +21,10 @@ use terms::units::Transfers;
 pub fn justrave_figures(state: &[u64], place: usize, j: u64, answer: &mut [u64]) -> u64
     ensures { record { answer = answer.new; outcome = result } ≡ figured max_places state.now place j answer.old }
 {
-    if !lengths_hold(state, answer.len() == 2) {
+    let Some(words) = lent(state, answer.len() == 2) else {
         return WRONG_LENGTH;
-    }
-    match figures_words(state, place, Transfers(j)) {
+    };
+    match figures_words(&words, place, Transfers(j)) {
         Ok(f) => {
             put_two(f.wait.0, f.finish.0, answer);
             0
@@ -39,10 +39,13 @@ pub fn justrave_figures(state: &[u64], place: usize, j: u64, answer: &mut [u64])
 pub fn justrave_chain(state: &[u64], place: usize, names: &[u8], answer: &mut [u64]) -> u64
     ensures { record { answer = answer.new; outcome = result } ≡ chained max_places state.now place names.now answer.old }
 {
-    if !lengths_hold(state, answer.len() == 1) || names.len() != room_of(state) {
+    let Some(words) = lent(state, answer.len() == 1) else {
+        return WRONG_LENGTH;
+    };
+    if names.len() != room_of(state) {
         return WRONG_LENGTH;
     }
-    match chain_words(state, place, names) {
+    match chain_words(&words, place, names) {
         Ok(f) => {
             answer[0] = f.0;
             0
@@ -56,10 +59,10 @@ pub fn justrave_chain(state: &[u64], place: usize, names: &[u8], answer: &mut [u
 pub fn justrave_lead(state: &[u64], place: usize, log: &[u8], answer: &mut [i64]) -> u64
     ensures { record { answer = answer.new; outcome = result } ≡ led max_places state.now place log.now answer.old }
 {
-    if !lengths_hold(state, answer.len() == 1) {
+    let Some(words) = lent(state, answer.len() == 1) else {
         return WRONG_LENGTH;
-    }
-    match lead_words(state, place, log) {
+    };
+    match lead_words(&words, place, log) {
         Ok(x) => {
             answer[0] = x;
             0
@@ -73,13 +76,13 @@ pub fn justrave_lead(state: &[u64], place: usize, log: &[u8], answer: &mut [i64]
 pub fn justrave_write(state: &[u64], buffer: &mut [u8], answer: &mut [u64]) -> u64
     ensures { record { buffer = buffer.new; answer = answer.new; outcome = result } ≡ wrote max_places state.now buffer.old answer.old }
 {
-    if !lengths_hold(state, answer.len() == 1) {
+    let Some(words) = lent(state, answer.len() == 1) else {
         return WRONG_LENGTH;
-    }
-    if !is_sound(state) {
+    };
+    if !is_sound(&words) {
         return refusal_code(StateRefusal::Unsound.into());
     }
-    match admit_and_write(state, buffer) {
+    match admit_and_write(&words, buffer) {
         Ok(bytes) => {
             answer[0] = bytes as u64;
             0
@@ -93,10 +96,10 @@ pub fn justrave_write(state: &[u64], buffer: &mut [u8], answer: &mut [u64]) -> u
 pub fn justrave_account(state: &[u64], place: usize, answer: &mut [u64]) -> u64
     ensures { record { answer = answer.new; outcome = result } ≡ account_exported max_places state.now place answer.old }
 {
-    if !lengths_hold(state, answer.len() == 2) {
+    let Some(words) = lent(state, answer.len() == 2) else {
         return WRONG_LENGTH;
-    }
-    match account_words(state, place) {
+    };
+    match account_words(&words, place) {
         Ok(a) => {
             put_two(a.credit, a.backlog.0, answer);
             0
@@ -110,10 +113,10 @@ pub fn justrave_account(state: &[u64], place: usize, answer: &mut [u64]) -> u64
 pub fn justrave_standing(state: &[u64], answer: &mut [u64]) -> u64
     ensures { record { answer = answer.new; outcome = result } ≡ standing_exported max_places state.now answer.old }
 {
-    if !lengths_hold(state, answer.len() == 2) {
+    let Some(words) = lent(state, answer.len() == 2) else {
         return WRONG_LENGTH;
-    }
-    match standing_words(state) {
+    };
+    match standing_words(&words) {
         Ok(s) => {
             put_two(s.slot.0, s.count as u64, answer);
             0

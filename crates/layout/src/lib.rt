@@ -2,5 +2,6 @@
 #![tactic(auto)]
 
 pub mod laying;
+pub mod lent;
 pub mod numbers;
 pub mod words;

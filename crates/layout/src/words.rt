@@ -1,5 +1,6 @@
 // Where each field of a state stands in its words: D, N and the slot number, and then, place after place, rate, burst, need, within, credit
-// and backlog. No other module of the product indexes a state's words.
+// and backlog. No other module of the product indexes a state's words. Each function asks for the words that it indexes and no more: those
+// who write call them between two stores, on words that no type holds.
 ghost use Rattle.std.specs.Prelude.{◌≡◌, ◌+◌, ◌≤◌, length, get_or, drop, replicate};
 ghost use Rattle.lists.specs.Sums.{every};
 ghost use Rattle.terms.specs.Limits.{max_places};

@@ -21,11 +21,6 @@ pub item_length : (item : List ℕ) → length (spaced item) ≡ suc (length ite
 unfolding spaced
 item_length item = refl
 
--- an item behind its space
-pub item_text : (item : List ℕ) → (32 ∷ []) ++ item ≡ spaced item
-unfolding spaced
-item_text item = refl
-
 pub line_length : (first : List ℕ) (others : List (List ℕ)) → length (line first others) ≡ length first + length (joined spaced others) + 1
 unfolding line
 line_length first others = simp (length-append) (omega arith)

@@ -2,14 +2,13 @@
 ghost use Rattle.std.specs.Prelude.{◌≡◌, [], ◌∷◌, ◌≤◌, length};
 ghost use Rattle.lists.specs.Sums.{joined};
 ghost use Rattle.lists.specs.Overwriting.{written_over};
-ghost use Rattle.terms.specs.Limits.{max_places};
 ghost use Rattle.layout.specs.Words.{state_of};
-ghost use Rattle.admission.specs.Checked.{Counted};
 ghost use Rattle.terms.specs.Refusals.{refusal_of};
 ghost use Rattle.lines.specs.Text.{decimal, spaced, line};
 ghost use Rattle.lines.specs.Lines.{header, end_line, refused_line, place_item, credit_items, slot_line};
 
 use crate::text::{put, put_item, put_number};
+use admission::counted::CountedWords;
 use layout::words::{account, count};
 use terms::answers::Slot;
 use terms::refusals::Cause;
@@ -56,11 +55,12 @@ pub fn put_end(slots: Slots, out: &mut [u8]) -> usize
 }
 
 // The credits from place 0 on.
-fn put_credits(words: &[u64], out: &mut [u8]) -> usize
-    requires { Counted max_places words.now × (length (joined spaced (credit_items (state_of words.now))) ≤ length out.old) }
+fn put_credits(words: &CountedWords, out: &mut [u8]) -> usize
+    requires { length (joined spaced (credit_items (state_of words.now))) ≤ length out.old }
     ensures wrote { result ≡ length (joined spaced (credit_items (state_of words.now))) }
     ensures text { out.new ≡ written_over (joined spaced (credit_items (state_of words.now))) out.old }
 {
+    let words = words.slice();
     let mut at = 0;
     for p in 0..count(words) {
         at += put_item(account(words, p).credit, &mut out[at..]);
@@ -83,8 +83,8 @@ fn put_place(granted: Option<usize>, out: &mut [u8]) -> usize
 
 // The line of a slot: its stamp, the place granted, and the credits after it.
 #[tactic(auto, using(lists::proofs::Overwriting::length_over, crate::proofs::Writing::slot_length), unfolding(crate::specs::Text::spaced, lists::specs::Overwriting::written_over))]
-pub fn put_slot(slot: Slot, after: &[u64], out: &mut [u8]) -> usize
-    requires { Counted max_places after.now × (length (slot_line slot.stamp.0 slot.granted (state_of after.now)) ≤ length out.old) }
+pub fn put_slot(slot: Slot, after: &CountedWords, out: &mut [u8]) -> usize
+    requires { length (slot_line slot.stamp.0 slot.granted (state_of after.now)) ≤ length out.old }
     ensures wrote { result ≡ length (slot_line slot.stamp.0 slot.granted (state_of after.now)) }
     ensures text { out.new ≡ written_over (slot_line slot.stamp.0 slot.granted (state_of after.now)) out.old }
 {

@@ -1,4 +1,6 @@
 // The steps of slotlist (section 14): each puts its text at the start of a lent buffer, and hands on the state and the rest of the input.
+// The room of the buffer is asked for: it is lent to be written, and a type behind `&mut` would not tell the lender what he gets back
+// (layout::lent).
 ghost use Rattle.std.specs.Prelude.{◌≡◌, true, ◌≤◌, length};
 ghost use Rattle.terms.specs.Limits.{max_places};
 ghost use Rattle.terms.specs.Refusals.{refusal_of};
@@ -12,7 +14,9 @@ ghost use Rattle.listing.specs.Listing.{last, slot_output, slot_step, step, firs
 ghost use Rattle.listing.specs.Room.{line_room, in_buffer, written, outcome_of, wrote_by};
 
 use crate::post_and_slot::post_and_slot;
+use admission::counted::CountedWords;
 use arbiter::state::Arbiter;
+use layout::lent::Words;
 use layout::words::{count, slot_number};
 use lines::lines::{put_end, put_header, put_refused, put_slot};
 use reads::beginning::begin;
@@ -66,7 +70,10 @@ fn tell<'a>(
     match done.answer {
         Ok(slot) => StepResult {
             state: done.after,
-            output: Output::More(put_slot(slot, &done.after.words, out), rest),
+            output: Output::More(
+                put_slot(slot, &CountedWords::of(&done.after.words), out),
+                rest,
+            ),
         },
         Err(why) => refuse(before, why, out),
     }
@@ -99,7 +106,7 @@ pub fn step<'a>(s: Arbiter, rest: &'a [u8], out: &mut [u8]) -> StepResult<'a>
             output: Output::NoRoom,
         };
     }
-    if !is_sound(&s.words) {
+    if !is_sound(&Words::of(&s.words)) {
         return refuse(s, StateRefusal::Unsound.into(), out);
     }
     if rest.len() == 0 {

@@ -1,4 +1,5 @@
-// A run: as many slots as a lent log has bytes. The words are tested once, and each slot is lent the log from its own byte on.
+// A run: as many slots as a lent log has bytes. The words are tested once, and each slot is lent the log from its own byte on. The length
+// is asked for, as of all words that are lent to be written (layout::lent).
 ghost use Rattle.std.specs.Prelude.{◌≡◌, true, [], ◌∷◌, ◌+◌, ◌≤◌, ◌<◌, length};
 ghost use Rattle.lists.specs.Overwriting.{written_over};
 ghost use Rattle.terms.specs.Limits.{max_places, max_slot};
@@ -10,6 +11,7 @@ ghost use Rattle.moves.specs.Moves.{Ready};
 
 use crate::slots::advance;
 use arbiter::state::Arbiter;
+use layout::lent::Words;
 use layout::words::{count, denominator, slot_number};
 use soundness::soundness::is_sound;
 use terms::refusals::{Cause, InputRefusal, StateRefusal};
@@ -50,7 +52,7 @@ pub fn run_words(words: &mut [u64], log: &mut [u8]) -> Result<(), Cause>
     requires { right_length max_places words.old ≡ true }
     ensures { record { state = state_of words.new; answer = answer_of result; log = log.new } ≡ run (room_of_words words.old) (state_of words.old) log.old }
 {
-    if !is_sound(words) {
+    if !is_sound(&Words::of(words)) {
         return Err(StateRefusal::Unsound.into());
     }
     if Arbiter::MAX_INPUT < log.len() {

@@ -1,4 +1,5 @@
-// A slot: it grants a place or none, every account moves on, and the slot number goes up by 1.
+// A slot: it grants a place or none, every account moves on, and the slot number goes up by 1. The length is asked for, as of all words
+// that are lent to be written (layout::lent). D and N go beside the words that they are of: they are read once for a run.
 ghost use Rattle.std.specs.Prelude.{◌≡◌, true};
 ghost use Rattle.terms.specs.Limits.{max_places};
 ghost use Rattle.rule.specs.Calls.{slot, called, grant_of, advanced};
@@ -7,6 +8,7 @@ ghost use Rattle.layout.specs.Words.{room_of_words, right_length, state_of};
 ghost use Rattle.moves.specs.Moves.{Ready};
 
 use arbiter::state::Arbiter;
+use layout::lent::Words;
 use layout::words::{count, denominator, put_slot_number, slot_number};
 use soundness::soundness::is_sound;
 use terms::answers::Slot;
@@ -33,7 +35,7 @@ pub fn slot_words(words: &mut [u64]) -> Result<Slot, Cause>
     requires { right_length max_places words.old ≡ true }
     ensures { record { state = state_of words.new; answer = slot_answer_of result } ≡ called (room_of_words words.old) (state_of words.old) slot }
 {
-    if !is_sound(words) {
+    if !is_sound(&Words::of(words)) {
         return Err(StateRefusal::Unsound.into());
     }
     let stamp = slot_number(words);

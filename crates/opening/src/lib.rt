@@ -1,4 +1,5 @@
-// How a start ends, once a table has been laid into the words: they are opened, or all become 0.
+// How a start ends, once a table has been laid into the words: they are opened, or all become 0. The length is asked for, as of all words
+// that are lent to be written (layout::lent).
 #![tactic(auto)]
 
 ghost use Rattle.std.specs.Prelude.{◌≡◌, true, length, replicate};

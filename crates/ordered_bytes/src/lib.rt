@@ -1,4 +1,5 @@
-// From a table's bytes to the bytes of the table in order (clause 8.3).
+// From a table's bytes to the bytes of the table in order (clause 8.3). The length is asked for, as of all words that are lent to be
+// written (layout::lent).
 #![tactic(auto)]
 
 ghost use Rattle.std.specs.Prelude.{◌≡◌, true};
@@ -11,6 +12,7 @@ ghost use Rattle.admission.specs.Checked.{table_in};
 ghost use Rattle.ordered_bytes.specs.OrderBytes.{order_read, order_bytes};
 
 use arbiter::state::Arbiter;
+use layout::lent::Words;
 use opening::turn_down;
 use ordering::order::order_laid;
 use queries::write::write_admitted;
@@ -39,5 +41,5 @@ pub fn order_bytes(table: &[u8], buffer: &mut [u8]) -> Result<usize, Cause>
 {
     let mut words = [0u64; Arbiter::WORDS];
     order_read(table, &mut words)?;
-    write_admitted(&words, buffer)
+    write_admitted(&Words::of(&words), buffer)
 }

@@ -149,7 +149,7 @@ answer_stays limit t u shape e = let (passes, rows) = answer_passes limit t u sh
 accept_refused : {X : Type 0} (limit : ℕ) (t u : Table) (why : Refusal) → order limit t ≡ accept u → (order limit t).answer ≡ refused why → X
 accept_refused limit t u why e f =
     let answers : accepted ≡ refused why = sym (ap (λ (x : TableResult). x.answer) e) ∙ f in
-    let z : ◌≡◌ {A = ℕ} 0 1 = cc in absurd (omega arith)
+    absurd cc
 
 pub fault_is_answered : FaultIsAnswered
 unfolding order

@@ -72,9 +72,6 @@ module _ (most : ℕ) (words : List ℕ) (k bursts rates : ℕ) (v : Remaining m
     own_row : requestor_at i remaining ≡ row_in words i
     own_row = get_or-take k (rows_in words) i no_requestor h ∙ row_at words i (omega (arith, within_room))
 
-    pub row_of_all : requestor_at i (rows_in words) ≡ row_in words i
-    row_of_all = row_at words i (omega (arith, within_room))
-
     split : (f : Requestor → ℕ) → total f remaining ≡ f (row_in words i) + total f (without i remaining)
     split f =
         let inside : i < length remaining = omega (arith, length-take k (rows_in words), rows_length words, within_room) in
@@ -152,15 +149,6 @@ module _ (entry : List ℕ) (i p : ℕ) where
   module _ (long : length entry ≡ word_count (room_of_words entry)) (inside : p < room_of_words entry) (words : List ℕ) (q : ℕ) (v : Lowering words q) where
     as_long : length words ≡ word_count (room_of_words entry)
     as_long = v.length_stands ∙ long
-
-    pub there : word_count (q + 1) ≤ length words
-    there = omega (arith, v.high, as_long)
-
-    pub last_there : word_count (p + 1) ≤ length words
-    last_there = omega (arith, as_long)
-
-    pub next_there_too : q < p → word_count (q + 1 + 1) ≤ length words
-    next_there_too h = omega (arith, as_long)
 
     rows_now : (words_state (room_of_words entry) words).table.requestors ≡ raised no_requestor rows₀ i q
     rows_now = ap (λ s. s.table.requestors) v.state

@@ -15,12 +15,6 @@ use Rattle.ordering.specs.Order.{need_holds, last_holding, filled_up}
 use Rattle.ordering.specs.Claims.{same_requestor}
 use Rattle.ordering.proofs.Needs.{requestors_told, same_above, Holds, Rated, rated_permuted, rated_without, holds_without}
 
-pub none_some : {X Y : Type 0} {x : X} → None ≡ Some x → Y
-none_some e = let z : ◌≡◌ {A = ℕ} 0 1 = cc in absurd (omega arith)
-
-some_same : {X : Type 0} (x y : X) → Some x ≡ Some y → x ≡ y
-some_same x y e = cc
-
 -- ---- the last-listed that can stand below all the others
 
 module _ (d : ℕ) (remaining : List Requestor) where
@@ -29,12 +23,12 @@ module _ (d : ℕ) (remaining : List Requestor) where
 
   pub holding_at : (m i : ℕ) → last_holding d remaining m ≡ Some i → (i < m) × (can_stand i ≡ true)
   unfolding last_holding
-  holding_at zero i e = none_some e
+  holding_at zero i e = absurd cc
   holding_at (suc m) i e = by (can_stand m) refl (holding_at m i) e
     where
       by : (b : Bool) → can_stand m ≡ b → (last_holding d remaining m ≡ Some i → (i < m) × (can_stand i ≡ true))
           → pick b (Some m) (last_holding d remaining m) ≡ Some i → (i < suc m) × (can_stand i ≡ true)
-      by true on below f = let same : m ≡ i = some_same m i f in (omega arith, rw same at on)
+      by true on below f = let same : m ≡ i = cc in (omega arith, rw same at on)
       by false off below f = let at = below f in (omega (arith, at.0), at.1)
 
   pub holding_none : (m : ℕ) → last_holding d remaining m ≡ None → (i : ℕ) → i < m → can_stand i ≡ false
@@ -44,7 +38,7 @@ module _ (d : ℕ) (remaining : List Requestor) where
     where
       by : (b : Bool) → can_stand m ≡ b → (last_holding d remaining m ≡ None → i < m → can_stand i ≡ false)
           → pick b (Some m) (last_holding d remaining m) ≡ None → can_stand i ≡ false
-      by true on below f = none_some (sym f)
+      by true on below f = absurd cc
       by false off below f = elim (dec_lt i m) [
         | yes inside ↦ below f inside
         | no last ↦ let same : m ≡ i = omega arith in rw same at off
@@ -106,14 +100,14 @@ filled_by d k remaining filled out i long e f =
 
 pub filled_up_lem : (d k : ℕ) (remaining filled out : List Requestor) → length remaining ≡ k → filled_up d k remaining filled ≡ Some out → Filled d remaining filled out
 unfolding filled_up
-filled_up_lem d zero [] filled out long e = record { front = []; ahead = sym (some_same filled out e); permuted = λ x. refl; holds = λ p h. absurd (omega arith) }
+filled_up_lem d zero [] filled out long e = record { front = []; ahead = cc; permuted = λ x. refl; holds = λ p h. absurd (omega arith) }
 filled_up_lem d zero (r ∷ remaining) filled out long e = absurd (omega arith)
 filled_up_lem d (suc k) remaining filled out long e = by (last_holding d remaining (suc k)) refl (λ i h f. filled_up_lem d k (without i remaining) (requestor_at i remaining ∷ filled) out h f) e
   where
     by : (o : Option ℕ) → last_holding d remaining (suc k) ≡ o
         → ((i : ℕ) → length (without i remaining) ≡ k → filled_up d k (without i remaining) (requestor_at i remaining ∷ filled) ≡ Some out → Filled d (without i remaining) (requestor_at i remaining ∷ filled) out)
         → option_and_then (λ i. filled_up d k (without i remaining) (requestor_at i remaining ∷ filled)) o ≡ Some out → Filled d remaining filled out
-    by None h again f = none_some f
+    by None h again f = absurd cc
     by (Some i) h again f =
         let inside : i < length remaining = omega (arith, (holding_at d remaining (suc k) i h).0) in
         filled_by d k remaining filled out i long h (again i (omega (arith, length_without i remaining inside)) f)
@@ -138,7 +132,7 @@ nobody_last d k remaining front long e permuted holds =
 pub no_order : (d k : ℕ) (remaining filled front : List Requestor) → length remaining ≡ k → Rated d remaining → filled_up d k remaining filled ≡ None
     → Permuted same_requestor front remaining → Holds d front → ⊥
 unfolding filled_up
-no_order d zero remaining filled front long rated e permuted holds = none_some (sym e)
+no_order d zero remaining filled front long rated e permuted holds = cc
 no_order d (suc k) remaining filled front long rated e permuted holds =
     by (last_holding d remaining (suc k)) refl (λ i h r f others kept. no_order d k (without i remaining) (requestor_at i remaining ∷ filled) others h r f kept) e
   where

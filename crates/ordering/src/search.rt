@@ -1,5 +1,6 @@
 // The search of clause 8.1 on words, in place. The first k rows are the list, and behind them stand those that have their place already. N
-// places take at most N * (N + 1) / 2 tests of a need, and no function here calls itself.
+// places take at most N * (N + 1) / 2 tests of a need, and no function here calls itself. The length is asked for, as of all words that are
+// lent to be written (layout::lent).
 ghost use Rattle.std.specs.Prelude.{◌≡◌, true, ◌≤◌, ◌<◌, take};
 ghost use Rattle.lists.specs.Orders.{without};
 ghost use Rattle.terms.specs.Limits.{max_places};
@@ -10,6 +11,7 @@ ghost use Rattle.ordering.specs.Order.{need_holds, last_holding, order_of, found
 ghost use Rattle.ordering.specs.InPlace.{in_state, Remaining, lowered};
 
 use admission::figures::finish_is_within;
+use admission::parts::FigureParts;
 use admission::sums::{Sums, sums_above};
 use layout::words::{burst, count, denominator, put_row, rate, requestor};
 use opening::turn_down;
@@ -22,9 +24,14 @@ fn need_holds(words: &[u64], k: usize, i: usize, all: Sums) -> bool
 {
     let d = denominator(words);
     let r = requestor(words, i);
-    let above = all.bursts - r.burst;
-    let left = d - (all.rates - r.rate);
-    finish_is_within(d, above, left, r.rate, r.need, r.within)
+    let parts = FigureParts {
+        d,
+        bursts: all.bursts - r.burst,
+        left: d - (all.rates - r.rate),
+        n: r.rate,
+        j: r.need,
+    };
+    finish_is_within(parts, r.within)
 }
 
 // The last of the list that can.

@@ -20,20 +20,16 @@ use Rattle.admission.specs.Checked.{table_in, Checked}
 use Rattle.admission.proofs.Rows.{denominator_word, count_word, rows_length, row_at, room_past, Placed, placed}
 use Rattle.lead_parts.specs.Counts.{bytes_equal}
 use Rattle.lead_parts.specs.Lead.{lead, lead_of, lead_verdict, lead_query}
-use Rattle.soundness.proofs.Places.{sound_checked}
 use Rattle.queries.specs.Look.{looked, refused, standing}
 
 -- ---- a place that may be asked about
 
-module _ (most : ℕ) (words : List ℕ) (p : ℕ) (right : right_length most words ≡ true) (ok : place_verdict (room_of_words words) (state_of words) p ≡ faultless) where
-  pub query_checked : Checked most words
-  query_checked = sound_checked most words right (place_open (room_of_words words) (state_of words) p ok).0
+pub query_below : (words : List ℕ) (p : ℕ) → place_verdict (room_of_words words) (state_of words) p ≡ faultless → p < (table_in words).count
+query_below words p ok = (place_open (room_of_words words) (state_of words) p ok).1
 
-  pub query_below : p < (table_in words).count
-  query_below = (place_open (room_of_words words) (state_of words) p ok).1
-
+module _ (most : ℕ) (words : List ℕ) (p : ℕ) (checked : Checked most words) (ok : place_verdict (room_of_words words) (state_of words) p ≡ faultless) where
   pub query_place : Placed most words p
-  query_place = placed most words p query_checked query_below
+  query_place = placed most words p checked (query_below words p ok)
 
   pub query_there : word_count (p + 1) ≤ length words
   query_there = query_place.there

@@ -1,4 +1,6 @@
-// The rule of a slot at one place: whether it is eligible, and what becomes of its account if it is granted and if it is not.
+// The rule of a slot at one place: whether it is eligible, and what becomes of its account if it is granted and if it is not. That credit
+// and rate add up within 64 bits is asked at each function, and is in no type: words that are lent can hold any number, so the walk shows
+// it anew at each place.
 ghost use Rattle.std.specs.Prelude.{◌≡◌, true, ◌+◌, ◌<◌, ◌^◌};
 ghost use Rattle.rule.specs.Rule.{eligible, served, passed};
 

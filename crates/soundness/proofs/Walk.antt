@@ -24,8 +24,12 @@ module _ (words : List ℕ) (d n : ℕ) where
   abbrev accounts : List Account
   accounts = (state_of words).accounts
 
-  -- after p places: what is left to check of the rows, what the bursts leave after the credits, and that every test so far passed
+  -- after p places: what is left to check of the rows, what the bursts leave after the credits, and that every test so far passed. Beside
+  -- it stands what the walk is asked of words that have room for the n places
   pub record Held (rates room p : ℕ) : Type 0 where
+    pub right : right_length max_places words ≡ true
+    pub few : n ≤ room_of_words words
+    pub small : d ≤ max_denominator
     pub below : p ≤ n
     pub rows : each_place (fields_verdict d) 0 (take n rs) ≡ each_place (fields_verdict d) p (drop p (take n rs))
     pub backlogs : every backlog_fits (take p accounts) ≡ true
@@ -35,9 +39,12 @@ module _ (words : List ℕ) (d n : ℕ) where
     pub room_fits : room ≤ p * max_burst
     pub rates_fit : rates ≤ p * max_denominator
 
-  pub held_none : Held 0 0 0
+  pub held_none : right_length max_places words ≡ true → n ≤ room_of_words words → d ≤ max_denominator → Held 0 0 0
   unfolding total every up_to
-  held_none = record {
+  held_none right few small = record {
+    right = right;
+    few = few;
+    small = small;
     below = omega arith;
     rows = refl;
     backlogs = refl;
@@ -49,7 +56,7 @@ module _ (words : List ℕ) (d n : ℕ) where
   }
 
   -- the row and the account of the next place
-  module _ (ok : right_length max_places words ≡ true) (few : n ≤ room_of_words words) (rates room p : ℕ) (v : Held rates room p) (h : p < n) where
+  module _ (rates room p : ℕ) (v : Held rates room p) (h : p < n) where
     abbrev r : Requestor
     r = row_in words p
 
@@ -57,16 +64,16 @@ module _ (words : List ℕ) (d n : ℕ) where
     a = account_in words p
 
     pub there : word_count (p + 1) ≤ length words
-    there = omega (arith, (right max_places words ok).long)
+    there = omega (arith, (right max_places words v.right).long, v.few)
 
     rows_long : n ≤ length rs
-    rows_long = omega (arith, (words_shaped (room_of_words words) words).rows)
+    rows_long = omega (arith, (words_shaped (room_of_words words) words).rows, v.few)
 
     er : get_or rs p no_requestor ≡ r
-    er = row_at (room_of_words words) words p (omega arith)
+    er = row_at (room_of_words words) words p (omega (arith, v.few))
 
     ea : get_or accounts p no_account ≡ a
-    ea = account_at_lem (room_of_words words) words p (omega arith)
+    ea = account_at_lem (room_of_words words) words p (omega (arith, v.few))
 
     row_stops : (w : Verdict) → fields_verdict d p r ≡ w → is_faultless w ≡ false → is_faultless (each_place (fields_verdict d) 0 (take n rs)) ≡ false
     row_stops faultless e f = true_false f
@@ -75,7 +82,7 @@ module _ (words : List ℕ) (d n : ℕ) where
     backlog_stops : backlog_fits a ≡ false → accounts_hold n rs accounts ≡ false
     unfolding accounts_hold
     backlog_stops f =
-        let inside : p < length (take n accounts) = simp length-take (omega (arith, (words_shaped (room_of_words words) words).accounts)) in
+        let inside : p < length (take n accounts) = simp length-take (omega (arith, (words_shaped (room_of_words words) words).accounts, v.few)) in
         rw (every_fails backlog_fits no_account (take n accounts) p inside (rw (get_or-take n accounts p no_account h, ea) f))
 
     -- a place that breaks a rule
@@ -103,15 +110,15 @@ module _ (words : List ℕ) (d n : ℕ) where
       row = row_open d p r (is_faultless_true (fields_verdict d p r) (and_true _ _ e).0)
 
       -- the sums with this place's own
-      pub sums_small : d ≤ max_denominator → (rates + r.rate ≤ max_places * max_denominator) × (room + r.burst ≤ max_places * max_burst)
-      sums_small small =
-          let most : n ≤ max_places = omega (arith, (right max_places words ok).room_most) in
-          (omega (arith, row.rate_most, v.rates_fit), omega (arith, row.burst_most, v.room_fits))
+      pub sums_small : (rates + r.rate ≤ max_places * max_denominator) × (room + r.burst ≤ max_places * max_burst)
+      sums_small =
+          let most : n ≤ max_places = omega (arith, (right max_places words v.right).room_most, v.few) in
+          (omega (arith, row.rate_most, v.rates_fit, v.small), omega (arith, row.burst_most, v.room_fits))
 
       -- one place more
-      pub held_more : d ≤ max_denominator → a.credit ≤ room + r.burst → Held (rates + r.rate) (room + r.burst - a.credit) (p + 1)
+      pub held_more : a.credit ≤ room + r.burst → Held (rates + r.rate) (room + r.burst - a.credit) (p + 1)
       unfolding up_to
-      held_more small l =
+      held_more l =
           let b = and_true (is_faultless (fields_verdict d p r)) _ e in
           let cs = total_take_suc credit no_account refl p accounts in
           let bs = total_take_suc burst no_requestor refl p rs in
@@ -122,6 +129,9 @@ module _ (words : List ℕ) (d n : ℕ) where
           let sum : rates + r.rate ≡ total rate (take (suc p) rs) = omega (arith, ns, v.rates_are, ap rate er) in
           let holds = le-leb (total credit (take (suc p) accounts)) (total burst (take (suc p) rs)) (omega arith) in
           record {
+            right = v.right;
+            few = v.few;
+            small = v.small;
             below = omega arith;
             rows = rest;
             backlogs = rw (add-one p) (every_more backlog_fits no_account accounts p v.backlogs (ap backlog_fits ea ∙ b.1));
@@ -129,7 +139,7 @@ module _ (words : List ℕ) (d n : ℕ) where
             room_is = rw (add-one p) left;
             rates_are = rw (add-one p) sum;
             room_fits = omega (arith, v.room_fits, row.burst_most);
-            rates_fit = omega (arith, v.rates_fit, row.rate_most);
+            rates_fit = omega (arith, v.rates_fit, row.rate_most, v.small);
           }
 
   -- all of them

@@ -1,4 +1,4 @@
-// A start from a table's bytes, read into the words.
+// A start from a table's bytes, read into the words. The length is asked for, as of all words that are lent to be written (layout::lent).
 ghost use Rattle.std.specs.Prelude.{◌≡◌, true};
 ghost use Rattle.terms.specs.Limits.{max_places};
 ghost use Rattle.terms.specs.Answers.{answer_of};

@@ -1,4 +1,5 @@
-// A table's bytes read into words: each number is read and checked where its bytes stand, and each row goes straight into the words.
+// A table's bytes read into words: each number is read and checked where its bytes stand, and each row goes straight into the words. The
+// length is asked for, as of all words that are lent to be written (layout::lent).
 ghost use Rattle.std.specs.Prelude.{◌≡◌, true};
 ghost use Rattle.terms.specs.Limits.{max_places};
 ghost use Rattle.terms.specs.Refusals.{faultless};

@@ -1,4 +1,4 @@
-// A start from a table given as numbers.
+// A start from a table given as numbers. The length is asked for, as of all words that are lent to be written (layout::lent).
 ghost use Rattle.std.specs.Prelude.{◌≡◌, true, length};
 ghost use Rattle.terms.specs.Limits.{max_places};
 ghost use Rattle.terms.specs.Start.{start};

@@ -51,12 +51,6 @@ pub gate_failed : (r : Refusal) (test : Bool) (rest : Verdict) → test ≡ fals
 unfolding gate
 gate_failed r test rest e = rw e
 
--- a fault that two series of checks find is found, whatever comes after them
-pub two_fault : (v w rest : Verdict) (r : Refusal) → then v w ≡ fault r → then v (then w rest) ≡ fault r
-unfolding then
-two_fault faultless w rest r e = rw e
-two_fault (fault x) w rest r e = e
-
 -- a number passes its bounds when it is within them, and only then
 pub held_open : (b : Bounds) (x : ℕ) → held_to b x ≡ faultless → (b.low ≤ x) × (x ≤ b.high)
 unfolding held_to

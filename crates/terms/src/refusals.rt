@@ -1,4 +1,5 @@
-// Why a call was refused: by its input or by the state it was handed, and inside what was wrong.
+// Why a call was refused: by its input or by the state it was handed, and inside what was wrong. Numbers are given here and nowhere else:
+// an enum whose cases hold a place has no numbers of its own.
 ghost use Rattle.std.specs.Prelude.{◌≡◌};
 ghost use Rattle.terms.specs.Refusals.{input_number, input_place, state_number, refusal_of};
 ghost use Rattle.terms.specs.declared.refusals.Cause.TheVariants as cause;

@@ -1,4 +1,5 @@
-// One slot: the walk passes over each place that is not eligible, serves the first that is, and passes over the rest.
+// One slot: the walk passes over each place that is not eligible, serves the first that is, and passes over the rest. The search is a loop
+// that breaks with the place, or with none.
 ghost use Rattle.std.specs.Prelude.{◌≡◌};
 ghost use Rattle.layout.specs.Words.{state_of};
 ghost use Rattle.walk.specs.Walk.{Roomy, grant_among, slot_among};

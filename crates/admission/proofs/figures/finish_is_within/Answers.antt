@@ -5,6 +5,5 @@ use Rattle.admission.proofs.figures.finish_is_within.Goals as goal
 
 pub returns : goal.returns
 returns c =
-    let a = c.args in
-    let f = c.requires.0 in
-    sym (finish_within a.d a.bursts a.left a.n a.j.0 f.left_least f.rate_least a.within.0)
+    let parts = c.args.parts in
+    sym (finish_within parts.d parts.bursts parts.left parts.n parts.j.0 parts.fit.left_least parts.fit.rate_least c.args.within.0)

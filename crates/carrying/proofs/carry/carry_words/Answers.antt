@@ -10,12 +10,12 @@ pub returns-then-not-is_sound_within : goal.returns-then-not-is_sound_within
 returns-then-not-is_sound_within c =
     let fits = fit old_places max_places _ _ c.requires in
     let long : length c.lay_old.new.words ≡ length c.args.words.now = omega arith in
-    let b = tested old_places max_places _ _ _ fits long c.lay_old.ensures _ _ c.old_room_of.ensures c.is_sound_within.ensures in
+    let b = tested old_places max_places _ _ _ fits long c.lay_old.ensures _ _ c.old_room_of.ensures (rw c.of.ensures at c.is_sound_within.ensures) in
     not_carried old_places max_places _ _ _ fits long c.lay_old.ensures _ (sym b ∙ c.if-not-is_sound_within.true) (rw c.into.ensures at c.turn_down.ensures.told)
 
 pub returns : goal.returns
 returns c =
     let fits = fit old_places max_places _ _ c.requires in
     let long : length c.lay_old.new.words ≡ length c.args.words.now = omega arith in
-    let b = tested old_places max_places _ _ _ fits long c.lay_old.ensures _ _ c.old_room_of.ensures c.is_sound_within.ensures in
+    let b = tested old_places max_places _ _ _ fits long c.lay_old.ensures _ _ c.old_room_of.ensures (rw c.of.ensures at c.is_sound_within.ensures) in
     carried old_places max_places _ _ _ fits long c.lay_old.ensures (sym b ∙ c.if-not-is_sound_within.false)

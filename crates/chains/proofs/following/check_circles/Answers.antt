@@ -6,12 +6,12 @@ use Rattle.chains.proofs.following.check_circles.Goals as goal
 
 pub returns-then-not-stays_clear : goal.returns-then-not-stays_clear
 returns-then-not-stays_clear c =
-    let counted = c.count-n.ensures ∙ count_word c.args.words.now in
+    let counted = (rw c.slice.ensures.same at c.count-n.ensures) ∙ count_word c.args.words.now in
     let met = rw counted at (sym c.stays_clear.ensures ∙ c.if-not-stays_clear.true) in
-    rw c.into.ensures (circles_stop _ _ max_places _ c.requires c.loop-p.invariant (omega (arith, c.loop-p-test.true, counted)) met)
+    rw c.into.ensures (circles_stop _ _ max_places _ (rw c.slice.ensures.same at c.slice.ensures.checked) c.loop-p.invariant (omega (arith, c.loop-p-test.true, counted)) met)
 
 pub loop-p-preserved : goal.loop-p-preserved
 loop-p-preserved c =
-    let counted = c.count-n.ensures ∙ count_word c.args.words.now in
+    let counted = (rw c.slice.ensures.same at c.count-n.ensures) ∙ count_word c.args.words.now in
     let clear = rw counted at (sym c.stays_clear.ensures ∙ c.if-not-stays_clear.false) in
-    circles_pass _ _ max_places _ c.requires c.loop-p.invariant (omega (arith, c.loop-p-test.true, counted)) clear
+    circles_pass _ _ max_places _ (rw c.slice.ensures.same at c.slice.ensures.checked) c.loop-p.invariant (omega (arith, c.loop-p-test.true, counted)) clear

@@ -8,4 +8,4 @@ pub returns-in-Ok : goal.returns-in-Ok
 returns-in-Ok c =
     let a = c.args in
     let put = ap (λ y. set a.answer.now 0 y) (to_z-of_z {w = w64} (search rules)) ∙ one_put a.answer.now c.in-Ok.x (search rules) in
-    lead_told max_places a.state.now a.place a.log.now a.answer.now (search rules) c.in-Ok.x c.in-Ok.ensures _ put
+    lead_told max_places a.state.now a.place a.log.now a.answer.now (search rules) c.in-Ok.x (rw c.in-Some.ensures.same at c.in-Ok.ensures) _ put

@@ -7,4 +7,4 @@ use Rattle.justrave.proofs.state_queries.justrave_write.Goals as goal
 pub returns-in-Ok : goal.returns-in-Ok
 returns-in-Ok c =
     let a = c.args in
-    write_told max_places a.state.now a.buffer.now a.answer.now (search rules) (search rules) c.in-Ok.bytes _ c.in-Ok.ensures _ (one_put a.answer.now c.in-Ok.bytes (search rules))
+    write_told max_places a.state.now a.buffer.now a.answer.now (search rules) (search rules) c.in-Ok.bytes _ (rw c.in-Some.ensures.same at c.in-Ok.ensures) _ (one_put a.answer.now c.in-Ok.bytes (search rules))
