@@ -50,8 +50,8 @@
  * leaves it, and keeps it so; and it uses the red zone, the 128 bytes below the stack pointer. An interrupt handler that runs on the same
  * stack must skip these 128 bytes before it writes, as the handlers of a process's signals do. How many bytes of stack an accepted
  * call takes, its return address and the red zone included, measured with the largest N by tests/stack: an order 4,360, a write 1,256, a
- * start from bytes 488, a chain 176, one from numbers 152, a carrying over 144, a lead and figures 128, a slot and a run 112, an account and
- * a standing 96, a post 80, the layout and the number of a state's words 24. JUSTRAVE_STACK is more than each.
+ * start from bytes 488, a chain 176, one from numbers 152, a carrying over and a lead 144, figures 128, a slot and a run 112, an account
+ * and a standing 96, a post 80, the layout and the number of a state's words 24. JUSTRAVE_STACK is more than each.
  */
 #ifndef JUSTRAVE_H
 #define JUSTRAVE_H

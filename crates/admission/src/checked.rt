@@ -1,4 +1,5 @@
-// A state's words whose table passed checks 1 to 6.
+// A state's words whose table passed checks 1 to 6. A struct of its own beside Words and CountedWords: a type cannot be generic in the fact
+// that it holds.
 ghost use Rattle.std.specs.Prelude.{◌≡◌, ℕ, List};
 ghost use Rattle.terms.specs.Limits.{max_places};
 ghost use Rattle.admission.specs.Checked.{Checked};

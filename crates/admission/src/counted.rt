@@ -1,4 +1,5 @@
-// A state's words that have room for the table's N places.
+// A state's words that have room for the table's N places. A struct of its own beside Words and CheckedWords: a type cannot be generic in
+// the fact that it holds.
 ghost use Rattle.std.specs.Prelude.{◌≡◌, ℕ, List};
 ghost use Rattle.terms.specs.Limits.{max_places};
 ghost use Rattle.admission.specs.Checked.{Counted};

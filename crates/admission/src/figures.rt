@@ -1,4 +1,4 @@
-// The wait and the finish figure of a place, in slots.
+// The wait and the finish figure of a place, in slots. That a place is one of the table's is asked at each, as an index is.
 ghost use Rattle.std.specs.Prelude.{◌≡◌, ℕ, ◌+◌, ◌≤◌, ◌<◌, ◌^◌, leb};
 ghost use Rattle.terms.specs.Limits.{max_places, max_need, max_within};
 ghost use Rattle.terms.specs.Table.{requestors_of};

@@ -7,7 +7,7 @@ ghost use Rattle.terms.specs.Table.{fields_verdict, need_fits, need_fits_verdict
 use terms::place::Requestor;
 use terms::refusals::{Cause, InputRefusal};
 
-// Whether the need of a row is no larger than its burst.
+// Whether the need of a row is no larger than its burst: clause 2.3 itself, of which the check below makes the refusal.
 #[tactic(auto, unfolding(terms::specs::Table::need_fits))]
 pub fn need_fits(d: u64, r: Requestor) -> bool
     requires { (d ≤ max_burst) × (r.need.0 ≤ max_need) }

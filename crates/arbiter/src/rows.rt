@@ -1,4 +1,5 @@
-// The checks of a row. A state's table is held to 3, 4 and 5; one that asks to be admitted also to 17.
+// The checks of a row. A state's table is held to 3, 4 and 5; one that asks to be admitted also to 17. D, the place and the row stay three:
+// the row is the struct, D is the table's, and the place is asked for its number alone.
 ghost use Rattle.std.specs.Prelude.{◌≡◌};
 ghost use Rattle.terms.specs.Refusals.{verdict_of};
 ghost use Rattle.terms.specs.Table.{fields_verdict, offered_row_verdict};

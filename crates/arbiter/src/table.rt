@@ -1,4 +1,5 @@
-// The requestor table as numbers, by value: how it is laid into words, and how it is handed back from them.
+// The requestor table as numbers, by value: how it is laid into words, and how it is handed back from them. `lay_table` takes a table by
+// value; layout::laying says why it is a function of its own.
 ghost use Rattle.std.specs.Prelude.{◌≡◌};
 ghost use Rattle.terms.specs.Limits.{max_places};
 ghost use Rattle.terms.specs.Start.{no_state};

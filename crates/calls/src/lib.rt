@@ -1,5 +1,6 @@
 // The calls by value. Those on a state lend its words to the call on words, where what a call does stands once; a refused call hands back
-// the state that was handed in. Those on a table lay it into words, or read it into them, and an old state is laid into them too.
+// the state that was handed in. Those on a table lay it into words, or read it into them, and an old state is laid into them too. Eight of
+// them stand beside the call on words: a state is handed in by value (clause 1.4), or lent by firmware (section 15).
 #![tactic(auto)]
 
 pub mod admit;

@@ -31,7 +31,7 @@ pub fn lengths_fit(old: &[u64], words: &[u64]) -> bool
         && old_room_of(old) <= room_of(words)
 }
 
-// Whatever the old words hold: test 23 comes later.
+// Whatever the old words hold: test 23 comes later. A function of its own beside the other layings: layout::laying says why.
 #[tactic(auto, using(crate::proofs::Fits::fit, layout::proofs::RoundTrip::right))]
 fn lay_old(old: &[u64], words: &mut [u64])
     requires { fits_into old_places max_places old.now words.old ≡ true }

@@ -1,4 +1,5 @@
 // Who follows whom, as it comes with a call: a name for each place, which is a byte, and the checks of the names over the whole table.
+// Names go beside words, in no struct with them: they come with a call, and no state holds them.
 ghost use Rattle.std.specs.Prelude.{◌≡◌, not, eqb};
 ghost use Rattle.lists.specs.Sums.{every};
 ghost use Rattle.terms.specs.Refusals.{verdict_of};
@@ -9,7 +10,7 @@ use admission::checked::CheckedWords;
 use layout::words::count;
 use terms::refusals::{Cause, InputRefusal};
 
-// The name that says: it follows nobody. In a log this byte says that nobody was granted. No place has this number.
+// The name that says: it follows nobody. In a log this byte says that nobody was granted. No place has this number. The byte is the caller's (clause 9.1).
 const NOBODY: u8 = 255;
 
 // Whom place p follows, by the name that is given for it. A place that no name is given for follows nobody.

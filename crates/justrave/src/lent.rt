@@ -7,7 +7,7 @@ use arbiter::state::Arbiter;
 use layout::lent::Words;
 use layout::words::length_is_right;
 
-// Whether lent words, and what is lent beside them, have their lengths.
+// Whether lent words, and what is lent beside them, have their lengths: for words that are lent to be written, which no type holds.
 pub(crate) fn lengths_hold(words: &[u64], beside: bool) -> bool
     ensures { result ≡ (right_length max_places words.now && beside) }
 {
@@ -25,7 +25,7 @@ pub(crate) fn lent(words: &[u64], beside: bool) -> Option<Words<'_>>
     Words::new(words, Arbiter::MAX_PLACES)
 }
 
-// An answer of two words.
+// An answer of two words, as C reads it.
 pub(crate) fn put_two(x: u64, y: u64, answer: &mut [u64])
     requires { length answer.old ≡ 2 }
     ensures { answer.new ≡ x ∷ y ∷ [] }

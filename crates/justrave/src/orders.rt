@@ -1,4 +1,5 @@
-// The exported call that puts a table's requestors in an order that passes admission. No state is lent to it.
+// The exported call that puts a table's requestors in an order that passes admission. No state is lent to it. The refusal is a number for
+// C, so that the `match` ends here.
 ghost use Rattle.std.specs.Prelude.{◌≡◌};
 ghost use Rattle.terms.specs.Limits.{max_places};
 ghost use Rattle.justrave.specs.Exported.{ordered};

@@ -1,4 +1,5 @@
-// The exported calls that change a state: post, slot and run; how many words a state has; and which layout they are in.
+// The exported calls that change a state: post, slot and run; how many words a state has; and which layout they are in. A refusal is a
+// number for C, so that each `match` ends here.
 ghost use Rattle.std.specs.Prelude.{◌≡◌};
 ghost use Rattle.terms.specs.Limits.{max_places};
 ghost use Rattle.layout.specs.Words.{layout_version};

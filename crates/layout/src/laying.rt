@@ -1,5 +1,7 @@
 // A table is laid into words: its D, its N and its rows as they are given, for the checks to look at. The slot number and the accounts are
-// opened later, or all words become 0. What is lent to be written asks for its length: `lent` says why it is no type.
+// opened later, or all words become 0. What is lent to be written asks for its length: `lent` says why it is no type. `lay` stands beside
+// lay_table (arbiter) and lay_old (carrying): each reads its rows from another form, and one function over them would have to say which
+// rows its closure gives.
 ghost use Rattle.std.specs.Prelude.{◌≡◌, true, [], length};
 ghost use Rattle.terms.specs.Limits.{max_places};
 ghost use Rattle.terms.specs.Table.{table_of};

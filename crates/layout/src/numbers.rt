@@ -1,5 +1,6 @@
 // Where each field of a table stands in the 32-bit numbers that it is given as: D, N, and then, place after place, rate, burst, need and
-// within. No other module indexes numbers that are handed in.
+// within. No other module indexes numbers that are handed in. The readers are not those of `words` with another type: width and offsets
+// both differ, and each stands beside its offsets.
 ghost use Rattle.std.specs.Prelude.{◌≡◌, ◌+◌, ◌≤◌, length, get_or};
 ghost use Rattle.terms.specs.Limits.{max_places};
 ghost use Rattle.layout.specs.Numbers.{row_start, right_numbers, numbers_row};

@@ -1,4 +1,5 @@
-// The lines of the listing, each with its line feed, in a buffer that has room for it.
+// The lines of the listing, each with its line feed, in a buffer that has room for it. The room is asked for: it is lent to be written
+// (layout::lent), and there is no heap.
 ghost use Rattle.std.specs.Prelude.{◌≡◌, [], ◌∷◌, ◌≤◌, length};
 ghost use Rattle.lists.specs.Sums.{joined};
 ghost use Rattle.lists.specs.Overwriting.{written_over};

@@ -1,4 +1,5 @@
-// Texts in a lent buffer: each is put at its start, and what stands behind is left as it was. The answer is how many bytes were put.
+// Texts in a lent buffer: each is put at its start, and what stands behind is left as it was. The answer is how many bytes were put: without
+// a heap a text that grows is a buffer with a length beside it.
 ghost use Rattle.std.specs.Prelude.{◌≡◌, ◌≤◌, ◌+◌, length};
 ghost use Rattle.lists.specs.Overwriting.{written_over};
 ghost use Rattle.lines.specs.Text.{decimal, spaced};

@@ -11,7 +11,7 @@ use calls::slot::slot;
 use terms::answers::{Outcome, Slot};
 use terms::units::Transfers;
 
-// The counts are posted from place 0 on, until one is refused.
+// The counts are posted from place 0 on, until one is refused, whose state and refusal are the outcome.
 #[tactic(auto, unfolding(crate::specs::Listing::posted))]
 fn post_counts(s: Arbiter, counts: &[u32]) -> Outcome<Arbiter, ()>
     ensures { result_of result ≡ posted max_places (held s) 0 counts.now }
@@ -30,7 +30,7 @@ fn post_counts(s: Arbiter, counts: &[u32]) -> Outcome<Arbiter, ()>
     }
 }
 
-// The counts are posted, and then the slot is done.
+// The counts are posted, and then the slot is done. Refused, the state goes back beside the refusal, which `?` would not hand on.
 #[tactic(auto, unfolding(crate::specs::Listing::post_and_slot))]
 pub(crate) fn post_and_slot(s: Arbiter, counts: &[u32]) -> Outcome<Arbiter, Slot>
     ensures { slot_result_of result ≡ post_and_slot max_places (held s) counts.now }

@@ -55,7 +55,7 @@ fn refuse<'a>(s: Arbiter, why: Cause, out: &mut [u8]) -> StepResult<'a>
     }
 }
 
-// What a slot came to, behind whose counts stands this rest: its line, or the refusal's.
+// What a slot came to, behind whose counts stands this rest: its line, or the refusal's. A refusal is a line too, so that no `?` hands it on.
 #[tactic(auto, using(crate::proofs::Telling::counted, crate::proofs::Telling::slot_few, crate::proofs::Telling::text_taken), unfolding(crate::specs::Listing::slot_output))]
 fn tell<'a>(
     before: Arbiter,

@@ -16,7 +16,7 @@ use layout::words::{count, denominator, slot_number};
 use soundness::soundness::is_sound;
 use terms::refusals::{Cause, InputRefusal, StateRefusal};
 
-// What the log says of a slot: the place granted, or 255.
+// What the log says of a slot: the place granted, or 255, a byte as clause 6.1 has it.
 fn grant_byte(granted: Option<usize>) -> u8
     requires { grant_byte granted < 256 }
     ensures { result ≡ grant_byte granted }

@@ -8,7 +8,8 @@ use arbiter::state::Arbiter;
 use groups::reading::read_number;
 use terms::refusals::Cause;
 
-// The n counts at the start of the bytes, each read from the bytes that the one before it left. Refused: 8, 9.
+// The n counts at the start of the bytes, each read from the bytes that the one before it left: the first n of an array for the largest N,
+// as there is no heap. Refused: 8, 9.
 pub fn read_counts(bytes: &[u8], n: usize) -> Result<([u32; Arbiter::MAX_PLACES], &[u8]), Cause>
     requires { n ≤ max_places }
     ensures { counts_of n result ≡ counts_read n bytes.now }

@@ -1,5 +1,5 @@
 // Why a call was refused: by its input or by the state it was handed, and inside what was wrong. Numbers are given here and nowhere else:
-// an enum whose cases hold a place has no numbers of its own.
+// those of the input by a function, as an enum whose cases hold a place has none of its own.
 ghost use Rattle.std.specs.Prelude.{◌≡◌};
 ghost use Rattle.terms.specs.Refusals.{input_number, input_place, state_number, refusal_of};
 ghost use Rattle.terms.specs.declared.refusals.Cause.TheVariants as cause;
@@ -26,12 +26,12 @@ pub enum InputRefusal {
     NeedAboveBurst(usize),
 }
 
-// Clauses 12.21 to 12.23.
+// Clauses 12.21 to 12.23, under their numbers.
 #[derive(Clone, Copy)]
 pub enum StateRefusal {
-    BacklogLimit,
-    SlotLimit,
-    Unsound,
+    BacklogLimit = 21,
+    SlotLimit = 22,
+    Unsound = 23,
 }
 
 // Why a call was refused, as its answer holds it: one of the input refusals, or one of the state refusals.
@@ -80,6 +80,7 @@ fn input_number(i: InputRefusal) -> u32
     }
 }
 
+// Which cases hold a place only a `match` can say.
 fn input_place(i: InputRefusal) -> Option<usize>
     ensures { result ≡ input_place i }
 {
@@ -97,11 +98,7 @@ fn input_place(i: InputRefusal) -> Option<usize>
 fn state_number(s: StateRefusal) -> u32
     ensures { result ≡ state_number s }
 {
-    match s {
-        StateRefusal::BacklogLimit => 21,
-        StateRefusal::SlotLimit => 22,
-        StateRefusal::Unsound => 23,
-    }
+    s as u32
 }
 
 impl From<InputRefusal> for Cause {
@@ -121,7 +118,7 @@ impl From<StateRefusal> for Cause {
 }
 
 impl Cause {
-    // Its number, the place it names, and what caused it.
+    // Its number, the place it names, and what caused it: a method under the name by which the promises know it (terms::refusal).
     pub fn refusal(self) -> Refusal
         ensures { result ≡ refusal_of self }
     {

@@ -1,5 +1,5 @@
 // One slot: the walk passes over each place that is not eligible, serves the first that is, and passes over the rest. The search is a loop
-// that breaks with the place, or with none.
+// that breaks with the place, or with none. D and N come beside the words that they are of: they are read once for a run.
 ghost use Rattle.std.specs.Prelude.{◌≡◌};
 ghost use Rattle.layout.specs.Words.{state_of};
 ghost use Rattle.walk.specs.Walk.{Roomy, grant_among, slot_among};
