@@ -48,7 +48,7 @@ pub fn reads_number(rt: &impl Print, bytes: &[u8]) -> io::Result<()> {
 pub fn writes_number(rt: &impl Print, x: u32) -> io::Result<()> {
     let mut buffer = [170u8; 6];
     let wrote = write_number(x, &mut buffer);
-    print!(rt; " {x} t {} b {}", number_len(x), wrote.unwrap_or(0))?;
+    print!(rt; " {x} t {} b {}", number_len(x), wrote)?;
     numbers(rt, &buffer)
 }
 

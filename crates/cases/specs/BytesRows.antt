@@ -1,6 +1,6 @@
 -- Edges of numbers as bytes (clauses 3.1 and 3.2), and of a table's reading and writing (clauses 3.3, 3.5, 13.2 and 13.4), worked out by
 -- hand. Bytes are in decimal, and in the comments in hexadecimal.
-use Rattle.std.specs.Prelude.{List, [], ◌∷◌, ◌++◌, ℕ, suc, ◌+◌, ◌-◌, ◌*◌, replicate, Some, None}
+use Rattle.std.specs.Prelude.{List, [], ◌∷◌, ◌++◌, ℕ, suc, ◌+◌, ◌-◌, ◌*◌, replicate}
 use Rattle.lists.specs.Sums.{joined}
 use Rattle.groups.specs.Groups.{Number, Ended, Malformed}
 use Rattle.terms.specs.declared.refusals.Refusal.{Refusal}
@@ -101,10 +101,10 @@ number_rows =
     -- a fifth byte of 7F makes the number too large: refused 9
     ∷ record { query = reading_number (255 ∷ 255 ∷ 255 ∷ 255 ∷ 127 ∷ []); written = number (stop (refusal 9)) }
     -- into a buffer: the bytes beyond are left; an exact fit; where they do not fit, 0 and nothing is written
-    ∷ record { query = putting_number 300 (old 4); written = put_as (record { wrote = Some 2; buffer = 172 ∷ 2 ∷ 90 ∷ 90 ∷ [] }) }
-    ∷ record { query = putting_number 300 (old 2); written = put_as (record { wrote = Some 2; buffer = 172 ∷ 2 ∷ [] }) }
-    ∷ record { query = putting_number 300 (old 1); written = put_as (record { wrote = None; buffer = 90 ∷ [] }) }
-    ∷ record { query = putting_number 0 []; written = put_as (record { wrote = None; buffer = [] }) }
+    ∷ record { query = putting_number 300 (old 4); written = put_as (record { wrote = 2; buffer = 172 ∷ 2 ∷ 90 ∷ 90 ∷ [] }) }
+    ∷ record { query = putting_number 300 (old 2); written = put_as (record { wrote = 2; buffer = 172 ∷ 2 ∷ [] }) }
+    ∷ record { query = putting_number 300 (old 1); written = put_as (record { wrote = 0; buffer = 90 ∷ [] }) }
+    ∷ record { query = putting_number 0 []; written = put_as (record { wrote = 0; buffer = [] }) }
     ∷ []
 
 -- what stands at the start of some bytes: a number and how many bytes it takes, bytes that end too soon, or no number

@@ -1,6 +1,6 @@
 -- What a row asks, what it is told, and the one evaluator. It states no clause: it runs the definitions that the contracts cite, parts of
 -- them, and the finish figure and admission as they were before request 1 (clause 7.5).
-use Rattle.std.specs.Prelude.{Bool, true, ◌&&◌, List, [], ◌∷◌, ◌++◌, map, ℕ, zero, suc, ◌-◌, ◌*◌, ltb, length, take, drop, get_or, replicate, unwrap_or}
+use Rattle.std.specs.Prelude.{Bool, true, ◌&&◌, List, [], ◌∷◌, ◌++◌, map, ℕ, zero, suc, ◌-◌, ◌*◌, ltb, length, take, drop, get_or, replicate}
 use Rattle.groups.specs.Groups.{Reading, number_of, number_bytes, Filled, number_written}
 use Rattle.terms.specs.declared.place.Requestor.{Requestor}
 use Rattle.terms.specs.Table.{Table, requestor_at, requestors_of, table_of}
@@ -180,7 +180,7 @@ reply (putting_number x old) = put_as (number_written x old)
 reply (taking_number given) = taken_as (number_of given)
 reply (lending_number x room buffer) =
     let w = number_written x (take room buffer) in
-    lent_as (length (number_bytes x)) (unwrap_or w.wrote 0) (w.buffer ++ drop room buffer)
+    lent_as (length (number_bytes x)) w.wrote (w.buffer ++ drop room buffer)
 reply (reading given) = let r = read_table max_places given in read_as r.answer r.table
 reply (reading_under limit given) = let r = read_table limit given in read_as r.answer r.table
 reply (writing t old) = let w = write_table max_places t old in written_as w.answer w.buffer

@@ -107,21 +107,25 @@ last_takes x = by_size (eqb x 0) where
   by_size true = omega arith
   by_size false = omega arith
 
-later_takes : (left : ℕ) (bytes : List ℕ) → taken_by (later_groups left bytes) ≤ length bytes
+later_takes : (left : ℕ) (bytes : List ℕ) → (taken_by (later_groups left bytes) ≤ left) × (taken_by (later_groups left bytes) ≤ length bytes)
 unfolding later_groups
-later_takes zero bytes = omega arith
-later_takes (suc left) [] = omega arith
+later_takes zero bytes = (omega arith, omega arith)
+later_takes (suc left) [] = (omega arith, omega arith)
 later_takes (suc left) (x ∷ bytes) = by_size (later_takes left bytes) (ltb x 128) where
-  by_size : taken_by (later_groups left bytes) ≤ length bytes → (small : Bool)
-      → taken_by (pick small (last_group x) (combined x (later_groups left bytes))) ≤ suc (length bytes)
-  by_size rest true = omega (arith, last_takes x)
-  by_size rest false = omega (arith, combined_takes x (later_groups left bytes))
+  by_size : (taken_by (later_groups left bytes) ≤ left) × (taken_by (later_groups left bytes) ≤ length bytes) → (small : Bool)
+      → (taken_by (pick small (last_group x) (combined x (later_groups left bytes))) ≤ suc left) × (taken_by (pick small (last_group x) (combined x (later_groups left bytes))) ≤ suc (length bytes))
+  by_size rest true = (omega (arith, last_takes x), omega (arith, last_takes x))
+  by_size rest false = (omega (arith, combined_takes x (later_groups left bytes)), omega (arith, combined_takes x (later_groups left bytes)))
+
+-- no more groups are taken than may follow
+pub later_few : (left : ℕ) (bytes : List ℕ) (high : Reading) → high ≡ later_groups left bytes → taken_by high ≤ left
+later_few left bytes high e = rw e (later_takes left bytes).0
 
 -- no byte past the end is taken
 pub number_takes : (bytes : List ℕ) → taken_by (number_of bytes) ≤ length bytes
 unfolding number_of
 number_takes [] = omega arith
-number_takes (x ∷ bytes) = by_size (later_takes max_later bytes) (ltb x 128) where
+number_takes (x ∷ bytes) = by_size (later_takes max_later bytes).1 (ltb x 128) where
   by_size : taken_by (later_groups max_later bytes) ≤ length bytes → (small : Bool)
       → taken_by (pick small (Number x 1) (combined x (later_groups max_later bytes))) ≤ suc (length bytes)
   by_size rest true = omega arith

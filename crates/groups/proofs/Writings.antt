@@ -1,5 +1,5 @@
 -- A number written group by group: what has been written, and what is left of the number. Assumes nothing.
-use Rattle.std.proofs.Common.{◌≡◌, refl, ap, sym, ◌∙◌, Bool, true, false, List, [], ◌∷◌, ◌++◌, ℕ, zero, suc, ◌+◌, ◌-◌, ◌*◌, ◌/◌, ◌%◌, ◌≤◌, ◌<◌, add-one, arith, lt-ltb, le-ltb, le-leb, ltb-true, ltb-false, ltb, length, get_or, take, drop, set, take_all, drop-cons, length-drop, None, Some}
+use Rattle.std.proofs.Common.{◌≡◌, refl, ap, sym, ◌∙◌, Bool, true, false, List, [], ◌∷◌, ◌++◌, ℕ, zero, suc, ◌+◌, ◌-◌, ◌*◌, ◌/◌, ◌%◌, ◌≤◌, ◌<◌, add-one, arith, lt-ltb, le-ltb, le-leb, ltb-true, ltb-false, ltb, length, get_or, take, drop, set, take_all, drop-cons, length-drop}
 use borrow.Author.Tests.{lt-leb}
 use Rattle.lists.specs.Choices.{pick}
 use Rattle.lists.specs.Overwriting.{written_over}
@@ -110,13 +110,13 @@ module _ {x k rest : ℕ} {old buffer : List ℕ} (room : length (number_bytes x
     pub put_last : rest < 128
     put_last = (ahead_last p.ahead last).0
 
-    pub put_whole : ◌≡◌ {A = Filled} (record { wrote = Some len; buffer = set buffer k rest }) (number_written x old)
+    pub put_whole : ◌≡◌ {A = Filled} (record { wrote = len; buffer = set buffer k rest }) (number_written x old)
     unfolding number_written written_over
     put_whole =
         rw (le-leb (length (number_bytes x)) (length old) room, e, put_byte rest (omega (arith, last)) (ahead_last p.ahead last).1, last, take_all (length (number_bytes x)) (number_bytes x) (omega arith))
 
 -- a buffer that has none
-pub put_short : (x : ℕ) (old : List ℕ) → length old < length (number_bytes x) → ◌≡◌ {A = Filled} (record { wrote = None; buffer = old }) (number_written x old)
+pub put_short : (x : ℕ) (old : List ℕ) → length old < length (number_bytes x) → ◌≡◌ {A = Filled} (record { wrote = 0; buffer = old }) (number_written x old)
 unfolding number_written
 put_short x old h = rw (lt-leb (length (number_bytes x)) (length old) h)
 

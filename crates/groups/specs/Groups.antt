@@ -1,6 +1,6 @@
 -- Clause 3.1: a number of at most 32 bits as one to five bytes, each with seven bits of it and a top bit, worth 128. A byte is a number
 -- below 256. Which bytes are no number is told as in clause 3.2.
-use Rattle.std.specs.Prelude.{List, [], ◌∷◌, ℕ, zero, suc, ◌+◌, ◌-◌, ◌*◌, ◌/◌, ◌%◌, ltb, leb, eqb, length, drop, Option, Some, None, Result, Ok, Err}
+use Rattle.std.specs.Prelude.{List, [], ◌∷◌, ℕ, zero, suc, ◌+◌, ◌-◌, ◌*◌, ◌/◌, ◌%◌, ltb, leb, eqb, length, drop, Result, Ok, Err}
 use Rattle.std.specs.Borrow.{Bor}
 use Rattle.lists.specs.Choices.{pick}
 use Rattle.lists.specs.Overwriting.{written_over}
@@ -61,14 +61,14 @@ groups_of (suc left) x = pick (ltb x 128) (x ∷ []) ((x % 128 + 128) ∷ groups
 unfoldable pub number_bytes : ℕ → List ℕ
 number_bytes x = groups_of max_later x
 
--- what a writing comes to: how many bytes were written, if the buffer had room for them, and the lent buffer afterwards
+-- what a writing comes to: how many bytes were written, and the lent buffer afterwards
 pub record Filled : Type 0 where
-  pub wrote : Option ℕ
+  pub wrote : ℕ
   pub buffer : List ℕ
 
 -- a number's bytes from the buffer's start on; where they do not fit, none
 unfoldable pub number_written : ℕ → List ℕ → Filled
 number_written x old =
     pick (leb (length (number_bytes x)) (length old))
-    (record { wrote = Some (length (number_bytes x)); buffer = written_over (number_bytes x) old })
-    (record { wrote = None; buffer = old })
+    (record { wrote = length (number_bytes x); buffer = written_over (number_bytes x) old })
+    (record { wrote = 0; buffer = old })

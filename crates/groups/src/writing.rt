@@ -16,14 +16,14 @@ pub fn number_len(x: u32) -> usize
     }
 }
 
-// A number's bytes at the start of the buffer, and how many they are; where they do not fit, none is written.
+// A number's bytes at the start of the buffer, and how many they are; 0 where they do not fit, and then nothing is written (clause 3.5).
 #[tactic(auto, using(crate::proofs::Writings::writing_steps))]
-pub fn write_number(x: u32, buffer: &mut [u8]) -> Option<usize>
+pub fn write_number(x: u32, buffer: &mut [u8]) -> usize
     ensures { record { wrote = result; buffer = buffer.new } ≡ number_written x buffer.old }
 {
     let len = number_len(x);
     if buffer.len() < len {
-        return None;
+        return 0;
     }
     let last = len - 1;
     let mut rest = x;
@@ -32,5 +32,5 @@ pub fn write_number(x: u32, buffer: &mut [u8]) -> Option<usize>
         rest /= 128;
     }
     buffer[last] = rest as u8;
-    Some(len)
+    len
 }

@@ -86,7 +86,8 @@ table_leaves limit input = told (number_read input) refl where
     by_size false = omega arith
   told (stop why) e = omega arith
 
-first_leaves : (limit : ℕ) (input : List ℕ) → follows (first_step limit input) ≤ length input
+-- so what the first step leaves is shorter than the input
+pub first_leaves : (limit : ℕ) (input : List ℕ) → follows (first_step limit input) ≤ length input
 unfolding first_step begun headed
 first_leaves limit input = grind (arith, table_leaves)
 

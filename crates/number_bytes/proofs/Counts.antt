@@ -1,5 +1,5 @@
 -- The bytes of a list's numbers: counted, and written one number behind the other. Assumes nothing.
-use Rattle.std.proofs.Common.{◌≡◌, refl, ap, ◌∙◌, List, [], ◌∷◌, ℕ, suc, ◌+◌, ◌-◌, ◌*◌, ◌≤◌, ◌<◌, arith, length, get_or, take, drop, length-append, take_all, le-leb, Some}
+use Rattle.std.proofs.Common.{◌≡◌, refl, ap, ◌∙◌, List, [], ◌∷◌, ℕ, suc, ◌+◌, ◌-◌, ◌*◌, ◌≤◌, ◌<◌, arith, length, get_or, take, drop, length-append, take_all, le-leb}
 use Rattle.std.specs.List.{sum_by}
 use Rattle.std.proofs.lemmas.List.Sums.{sum_by-cons, sum_by-take-le}
 use borrow.Rule.Slice.PartMut.{put_mid}
@@ -62,16 +62,13 @@ module _ {numbers old buffer : List ℕ} {k i : ℕ} (room : length (joined numb
       )
 
   -- there is room for it
-  pub written_there : number_written x part ≡ record { wrote = Some (bytes_of x); buffer = written_over (number_bytes x) part }
+  pub written_there : number_written x part ≡ record { wrote = bytes_of x; buffer = written_over (number_bytes x) part }
   unfolding number_written
   written_there = rw (le-leb (bytes_of x) (length part) (put_room w.put (number_bytes x) fits))
 
-  module _ (more : ℕ) (filled : List ℕ) (e : ◌≡◌ {A = Filled} (record { wrote = Some more; buffer = filled }) (number_written x part)) where
-    some : Some more ≡ Some (bytes_of x)
-    some = ap (λ (f : Filled). f.wrote) (e ∙ written_there)
-
+  module _ (more : ℕ) (filled : List ℕ) (e : ◌≡◌ {A = Filled} (record { wrote = more; buffer = filled }) (number_written x part)) where
     wrote : more ≡ bytes_of x
-    wrote = let s = some in cc
+    wrote = ap (λ (f : Filled). f.wrote) (e ∙ written_there)
 
     pub written_next : Written numbers old (put_mid k (length buffer - k) buffer filled) (k + more) (i + 1)
     written_next = record {

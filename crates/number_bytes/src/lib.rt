@@ -28,6 +28,6 @@ pub fn put_numbers(numbers: &[u32], buffer: &mut [u8])
 {
     let mut at = 0;
     for x in numbers {
-        at += write_number(*x, &mut buffer[at..]).unwrap();
+        at += write_number(*x, &mut buffer[at..]);
     }
 }

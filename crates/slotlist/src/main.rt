@@ -2,7 +2,7 @@
 // that fails ends it with that error.
 #![tactic(auto)]
 
-ghost use Rattle.std.specs.Prelude.{◌≤◌, length};
+ghost use Rattle.std.specs.Prelude.{◌≤◌, length, IfOk};
 ghost use Rattle.terms.specs.Limits.{max_places};
 ghost use Rattle.listing.specs.Room.{line_room};
 
@@ -18,7 +18,9 @@ const INPUT_ROOM: usize = Arbiter::MAX_INPUT + 1;
 const PAGE: usize = 65536;
 
 // Bytes from a reader until it ends or the room is full. A read gives as many as it likes, so that no `for` counts them.
-fn read_input<'a, R: Read>(input: &mut R, room: &'a mut [u8]) -> io::Result<&'a [u8]> {
+fn read_input<'a, R: Read>(input: &mut R, room: &'a mut [u8]) -> io::Result<&'a [u8]>
+    ensures { IfOk result (λ bytes. length bytes.now ≤ length room.old) }
+{
     let mut at = 0;
     while at < room.len() {
         let more = input.read(&mut room[at..])?;

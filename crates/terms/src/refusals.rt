@@ -1,7 +1,7 @@
 // Why a call was refused: by its input or by the state it was handed, and inside what was wrong. Numbers are given here and nowhere else:
 // those of the input by a function, as an enum whose cases hold a place has none of its own.
 ghost use Rattle.std.specs.Prelude.{◌≡◌};
-ghost use Rattle.terms.specs.Refusals.{input_number, input_place, state_number, refusal_of};
+ghost use Rattle.terms.specs.Refusals.{input_number, input_place, state_number, refusal_of, verdict_of, then};
 ghost use Rattle.terms.specs.declared.refusals.Cause.TheVariants as cause;
 
 // Clauses 12.1 to 12.17. Those that name a place hold it.
@@ -99,6 +99,17 @@ fn state_number(s: StateRefusal) -> u32
     ensures { result ≡ state_number s }
 {
     s as u32
+}
+
+// The first fault of two checks that were both made. Checks that are made one behind the other hand theirs on by `?`.
+#[tactic(auto, unfolding(crate::specs::Refusals::then))]
+pub fn first_fault(a: Result<(), Cause>, b: Result<(), Cause>) -> Result<(), Cause>
+    ensures { verdict_of result ≡ then (verdict_of a) (verdict_of b) }
+{
+    match a {
+        Ok(()) => b,
+        Err(_) => a,
+    }
 }
 
 impl From<InputRefusal> for Cause {
