@@ -7,4 +7,4 @@ use Rattle.justrave.proofs.states.justrave_slot.Goals as goal
 pub returns-in-Ok : goal.returns-in-Ok
 returns-in-Ok c =
     let a = c.args in
-    slot_told max_places a.state.now a.answer.now _ (search rules) (search rules) c.in-Ok.s c.in-Ok.ensures _ c.place_code.ensures _ c.put_two.ensures
+    slot_told max_places a.state.now a.answer.now _ (search rules) (search rules) c.in-Ok.s c.in-Ok.ensures _ (search rules) _ c.put_two.ensures
