@@ -6,26 +6,30 @@ ghost use Rattle.calls.specs.ByValue.{slot_result_of};
 ghost use Rattle.listing.specs.Listing.{posted, post_and_slot};
 
 use arbiter::state::Arbiter;
-use calls::post::post;
 use calls::slot::slot;
+use moves::posts::post_words;
 use terms::answers::{Outcome, Slot};
 use terms::units::Transfers;
 
-// The counts are posted from place 0 on, until one is refused, whose state and refusal are the outcome.
-#[tactic(auto, unfolding(crate::specs::Listing::posted))]
-fn post_counts(s: Arbiter, counts: &[u32]) -> Outcome<Arbiter, ()>
+// The counts are posted from place 0 on, until one is refused, whose state and refusal are the outcome. Each post is lent the words: a post
+// by value would copy the whole state in and out again, place by place.
+#[tactic(auto, using(arbiter::proofs::ByValue::right_full, arbiter::proofs::ByValue::room_full, crate::proofs::Posting::posting_stop), unfolding(crate::specs::Listing::posted))]
+fn post_counts(mut s: Arbiter, counts: &[u32]) -> Outcome<Arbiter, ()>
     ensures { result_of result ≡ posted max_places (held s) 0 counts.now }
 {
-    let mut state = s;
     for (p, count) in counts.iter().enumerate() {
-        let done = post(state, p, Transfers(*count as u64));
-        match done.answer {
-            Ok(()) => state = done.after,
-            Err(_) => return done,
+        match post_words(&mut s.words, p, Transfers(*count as u64)) {
+            Ok(()) => {}
+            Err(why) => {
+                return Outcome {
+                    after: s,
+                    answer: Err(why),
+                };
+            }
         }
     }
     Outcome {
-        after: state,
+        after: s,
         answer: Ok(()),
     }
 }

@@ -67,13 +67,12 @@ fn tell<'a>(
     ensures value { outcome_of result out.new ≡ written (slot_output (held before) (slot_answer_of done.answer) (held done.after) rest.now) out.old }
     ensures wrote { wrote_by result.output ≤ length out.old }
 {
-    match done.answer {
+    // taken apart first: the compiler copies the state twice more where `done.after` is named twice
+    let Outcome { after, answer } = done;
+    match answer {
         Ok(slot) => StepResult {
-            state: done.after,
-            output: Output::More(
-                put_slot(slot, &CountedWords::of(&done.after.words), out),
-                rest,
-            ),
+            state: after,
+            output: Output::More(put_slot(slot, &CountedWords::of(&after.words), out), rest),
         },
         Err(why) => refuse(before, why, out),
     }

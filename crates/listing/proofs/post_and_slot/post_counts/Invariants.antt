@@ -6,4 +6,4 @@ use Rattle.listing.specs.Listing.{posted}
 use Rattle.listing.proofs.post_and_slot.post_counts.Given as goal
 
 abbrev pub invariant-loop-p : goal.invariant-loop-p
-invariant-loop-p l = posted max_places (held l.state) l.p (drop l.p l.counts) ≡ posted max_places (held l.fn.s) 0 l.counts
+invariant-loop-p l = posted max_places (held l.s) l.p (drop l.p l.counts) ≡ posted max_places (held l.fn.s) 0 l.counts
