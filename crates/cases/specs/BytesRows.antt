@@ -69,7 +69,7 @@ unwritten t r = record { query = writing t (marked 3); written = written_as (wri
 unfoldable pub unread : Refusal → Reply
 unread r = read_as (refused r) all_zero
 
--- clauses 3.1 and 3.2
+-- clauses 3.1 and 3.2, and of a number's writing 3.5
 unfoldable pub number_rows : List Row
 number_rows =
     -- refused 8: no byte; 80; four bytes that each say that another follows

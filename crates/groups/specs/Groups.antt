@@ -66,7 +66,7 @@ pub record Filled : Type 0 where
   pub wrote : ℕ
   pub buffer : List ℕ
 
--- a number's bytes from the buffer's start on; where they do not fit, none
+-- clause 3.5: a number's bytes from the buffer's start on; where they do not fit, none
 unfoldable pub number_written : ℕ → List ℕ → Filled
 number_written x old =
     pick (leb (length (number_bytes x)) (length old))

@@ -5,6 +5,11 @@ use Rattle.lists.proofs.Tests.{cases}
 use Rattle.terms.specs.State.{State, backlog, account_at, sound, place_verdict}
 use Rattle.terms.specs.Limits.{max_places, max_backlog}
 use Rattle.terms.specs.declared.refusals.Cause.{Cause}
+use Rattle.terms.specs.declared.refusals.Cause.TheVariants.{Input}
+use Rattle.terms.specs.declared.refusals.InputRefusal.{InputRefusal}
+use Rattle.terms.specs.declared.refusals.InputRefusal.TheVariants.{NoSuchPlace}
+use Rattle.terms.specs.declared.refusals.Origin.{Origin}
+use Rattle.terms.specs.declared.refusals.Origin.TheVariants as origin
 use Rattle.terms.specs.declared.refusals.Refusal.{Refusal}
 use Rattle.terms.specs.Refusals.{Verdict, faultless, fault, refusal_of, refusal, gate}
 use Rattle.terms.proofs.Checks.{faultless_fault, gate_open}
@@ -23,6 +28,20 @@ place_refused limit s p count r e = cases (sound limit s)
     (λ there. faultless_fault r (sym (rw (on, there) at e)))
     (λ absent. let same : fault r ≡ fault (refusal 11) = rw (on, absent) at e in let one : r ≡ refusal 11 = cc in rw (on, absent, one) refl))
     (λ off. let same : fault r ≡ fault (refusal 23) = rw off at e in let one : r ≡ refusal 23 = cc in rw (off, one) refl)
+
+-- 23 is the state's, so that what the input causes of the two is 11: a post that answers another number is refused by this fact
+pub by_input : (limit : ℕ) (s : State) (p : ℕ) (i : InputRefusal) → fault (refusal_of (Input i)) ≡ place_verdict limit s p
+    → fault (refusal_of (Input NoSuchPlace)) ≡ place_verdict limit s p
+unfolding place_verdict gate
+by_input limit s p i e = cases (sound limit s)
+    (λ on. cases (ltb p s.table.count)
+    (λ there. faultless_fault (refusal_of (Input i)) (sym (rw (on, there) at e)))
+    (λ absent. rw (on, absent) refl))
+    (λ off. let same : fault (refusal_of (Input i)) ≡ fault (refusal 23) = rw off at e in
+    let one : refusal_of (Input i) ≡ refusal 23 = cc in
+    let caused : ◌≡◌ {A = Origin} origin.Input origin.State = ap (λ (r : Refusal). r.origin) one in
+    let apart : ◌≡◌ {A = ℕ} 0 1 = cc in
+    absurd (omega arith))
 
 module _ (words : List ℕ) (p count : ℕ) where
   abbrev s : State
@@ -71,4 +90,4 @@ module _ (words : List ℕ) (p count : ℕ) where
         ap (λ k. words_state k (put_account words p a)) same ∙ put_account_lem words p a (room_of_words words) (length_is words ok).long inside in
         ap (λ (x : State). record { state = x; answer = accepted }) (stored ∙ ap (λ x. with_account s p (with_count count x)) here) ∙ sym fine
 
-pub ruleset post_ends = (post_refused, post_there, backlog_most, post_21, post_done)
+pub ruleset post_ends = (post_refused, by_input, post_there, backlog_most, post_21, post_done)
