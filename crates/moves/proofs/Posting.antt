@@ -29,7 +29,8 @@ place_refused limit s p count r e = cases (sound limit s)
     (λ absent. let same : fault r ≡ fault (refusal 11) = rw (on, absent) at e in let one : r ≡ refusal 11 = cc in rw (on, absent, one) refl))
     (λ off. let same : fault r ≡ fault (refusal 23) = rw off at e in let one : r ≡ refusal 23 = cc in rw (off, one) refl)
 
--- 23 is the state's, so that what the input causes of the two is 11: a post that answers another number is refused by this fact
+-- 23 is the state's, so that what the input causes of the two is 11. The code hands its refusal on, without this; by it a body that
+-- writes 11 by hand is proved, so that the edit that writes 12 is refused for its number.
 pub by_input : (limit : ℕ) (s : State) (p : ℕ) (i : InputRefusal) → fault (refusal_of (Input i)) ≡ place_verdict limit s p
     → fault (refusal_of (Input NoSuchPlace)) ≡ place_verdict limit s p
 unfolding place_verdict gate
